@@ -1,0 +1,8 @@
+use borrow.Author.Needs.{needs}
+use Rattle.std.proofs.shelf.Equals.{matches-decides, sameBytes-decides}
+use Rattle.sharing_text.proofs.reading.is_text.Needs as need
+
+pub returns : need.returns
+returns c =
+    let same = matches-decides (c .args .word .now) (c .args .text .now) (c .eq .result) (c .eq .ensures) in
+    search (needs, sameBytes-decides)
