@@ -1,0 +1,4 @@
+pub mod Records
+pub mod Leads
+pub mod Afters
+pub mod Steps
