@@ -1,0 +1,9 @@
+pub mod Own
+pub mod Weights
+pub mod Ways
+pub mod Owing
+pub mod Adds
+pub mod Noted
+pub mod Laws
+pub mod Runs
+pub mod Fits
