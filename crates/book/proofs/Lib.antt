@@ -1,0 +1,4 @@
+pub mod Keeps
+pub mod Onward
+pub mod Connected
+pub mod Fits

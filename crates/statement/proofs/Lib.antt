@@ -1,0 +1,4 @@
+pub mod Lists
+pub mod Kept
+pub mod Theorem
+pub mod Order

@@ -1,0 +1,4 @@
+pub mod Journal
+pub mod Formulas
+pub mod Balanced
+pub mod Joining
