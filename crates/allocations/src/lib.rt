@@ -4,6 +4,9 @@
 //! has a party pay its own bill, `Allocation::new` takes parts and refuses broken ones, and `falls`
 //! tells what falls of a bill to a party: the bill is shared by weight over the thousandths, and what
 //! falls to all the parties is the bill, to the cent.
+
+#![tactic(auto)]
+
 pub mod allocation;
 pub mod parts;
 

@@ -1,4 +1,7 @@
 //! Prints amounts that were worked out by hand, or by a count of its own, and are compared with `stdout`.
+
+#![tactic(auto)]
+
 use allocations::{Allocation, Part};
 use balancing::Rates;
 use billing::{Note, Standing, run};

@@ -4,6 +4,9 @@
 //! `Rates::PUBLISHED`. `tolerance`, `charge` and `claim` answer one quantity each, and `amounts` both
 //! amounts of an interval, in microcents (millionths of a cent), exact. A quantity above 9,000,000,000 Wh
 //! is refused; nothing else is.
+
+#![tactic(auto)]
+
 pub mod figures;
 pub mod rates;
 

@@ -7,6 +7,9 @@
 //! Every amount is exactly its formula. The bills add up to the cost and the charges, the dues to the
 //! bills, the credits and what is held to the cost and the charges; nothing is above 2,000,000,000 cents.
 //! A refusal leaves the notes as they were, and nothing allocates.
+
+#![tactic(auto)]
+
 mod credits;
 mod dues;
 mod month;

@@ -8,6 +8,9 @@
 //! No `Book` out of balance can exist: what payers owe plus the purse is what payees are owed plus what
 //! is held, by the type's own invariant. A refused call leaves the book as it was, and no call but
 //! making a book allocates.
+
+#![tactic(auto)]
+
 mod account;
 mod claim;
 mod connection;

@@ -2,6 +2,9 @@
 //!
 //! Whatever is refused, in whichever crate, is refused with a `Fault`: the layer that refused, that
 //! layer's own cause, and the place. Each cause has a fixed number, by which operators know it.
+
+#![tactic(auto)]
+
 ghost use Rattle.std.specs.Prelude.{◌≡◌};
 ghost use Rattle.faults.specs.Numbers.{number_of, name_of, bytes_fault, meter_fault, notice_fault, book_fault};
 

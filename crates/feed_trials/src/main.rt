@@ -1,6 +1,9 @@
 //! Tries what the proofs say: nine connections across three facilities joined in many orders, alone
 //! and in a stack of three join feeds; groups below that joins above know nothing of; lists that are
 //! refused; and the swings over the largest table there is.
+
+#![tactic(auto)]
+
 use faults::Fault;
 use feeds::{Feed, JoinFeed, RecordFeed, swing};
 use std::alloc::{AllocError, Global};

@@ -8,6 +8,9 @@
 //! No call on a feed allocates. A read of a join feed at the lowest point of a group reads each point
 //! of the group below once, and at any other point reads nothing below: in a stack of k join feeds,
 //! reading all points of an interval takes k times as many reads as there are points.
+
+#![tactic(auto)]
+
 pub mod covered;
 pub mod feed;
 pub mod joined;

@@ -2,6 +2,9 @@
 //!
 //! The figures were worked out by hand. `ten_figures_hold` says of each that the definitions by which
 //! the engine is proved give it: if a definition changed its meaning, this crate would not be proved.
+
+#![tactic(auto)]
+
 ghost use Rattle.std.specs.Prelude.{◌≡◌, length};
 ghost use Rattle.figures.specs.Ten.{figures, FiguresHold};
 

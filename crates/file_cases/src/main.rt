@@ -3,6 +3,9 @@
 //! A line is a word and some bytes. `notice` and `meter` read the bytes; `allocate` writes an allocation
 //! into a buffer of as many bytes as the first one tells, and the others are the party and its parts.
 //! A line that begins with `#` is printed as it is.
+
+#![tactic(auto)]
+
 use anyhow::anyhow;
 use faults::Fault;
 use feeds::Feed;

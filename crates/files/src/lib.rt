@@ -5,6 +5,8 @@
 //! `write_record` puts one into the caller's buffer and keeps what lies after it.
 //! Each undoes the other, and no answer depends on what follows a record.
 
+#![tactic(auto)]
+
 mod record;
 
 pub use record::{Record, open_record, write_record};

@@ -5,6 +5,8 @@
 //! lends the bytes of its parts from the file: `part_count` and `part_at` walk them.
 //! Every notice written reads back, and every notice read is written back to its own bytes.
 
+#![tactic(auto)]
+
 mod notice;
 mod part;
 mod read;

@@ -1,4 +1,7 @@
 //! Shares amounts over weights, line by line from standard input.
+
+#![tactic(auto)]
+
 use sharing_text::{Reply, reply_to};
 
 // Prints the answer to the line of this number, if it has one.

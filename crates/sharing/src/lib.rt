@@ -14,6 +14,9 @@
 //! largest remainders, equal ones to the earlier place. `ByHeads` counts each weight that is not 0
 //! as 1. `Choice` is the one or the other, chosen as the program runs. A rule of your own implements
 //! `Rule`: it states its meaning and shows the three laws of it.
+
+#![tactic(auto)]
+
 pub mod by_heads;
 pub mod by_weight;
 pub mod choice;

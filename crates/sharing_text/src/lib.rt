@@ -4,6 +4,9 @@
 //! answers it: the shares, or the number of the refusal, or that the line is malformed. A line with
 //! no word, or whose first word begins with `#`, is passed over in silence. Numbers may have any
 //! number of digits.
+
+#![tactic(auto)]
+
 pub mod reading;
 pub mod reply;
 pub mod words;

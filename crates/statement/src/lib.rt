@@ -6,6 +6,9 @@
 //! its journal, to the cent; and the order in which points were joined before a begin changes no answer
 //! and nothing shown. `every_begin_is_lawful` shows that any feeds and any rule make a lawful begin, so
 //! that the word lawful asks nothing of a caller.
+
+#![tactic(auto)]
+
 pub mod laws;
 pub mod sides;
 

@@ -4,6 +4,9 @@
 //! specifications here say what bounds such a table keeps, which points joins put into one group,
 //! what the joined table shows, and how far a point's withdrawal swings; `laws` proves what holds of
 //! them. Feeds take the limits and the range tests from here, so that they all refuse alike.
+
+#![tactic(auto)]
+
 pub mod laws;
 pub mod limits;
 pub mod range;
