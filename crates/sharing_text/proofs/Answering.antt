@@ -1,6 +1,6 @@
 -- The answer to a line, word by word.
-use Rattle.std.proofs.Common.{◌≡◌, ℕ, ◌<◌, Bool, true, false, cond, ◌||◌, eqb, List, [], ◌∷◌, length, get_or, Some, None, Option, sym, refl, ap, ◌∙◌, ⊎_elim, arith}
-use Rattle.std.proofs.lemmas.Bool.{cases_eq, cond-true, cond-false, or_parts, or_cases, eqb-true, eqb-false, ne_eqb}
+use Rattle.std.proofs.Common.{◌≡◌, ℕ, ◌<◌, true, false, ◌||◌, eqb, List, [], ◌∷◌, length, get_or, Some, None, Option, sym, refl, ap, ◌∙◌, ⊎_elim, arith}
+use Rattle.std.proofs.lemmas.Bool.{cases_eq, cond-true, cond-false, or_parts, or_cases, eqb-true, eqb-false}
 use Rattle.sharing.specs.declared.choice.Choice.{Choice}
 use Rattle.std.specs.Option.{option_map}
 use Rattle.sharing_text.specs.Replies.{silence, malformed, asked, with_weights, answer_to, reply_of}

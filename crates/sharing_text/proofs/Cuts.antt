@@ -1,5 +1,5 @@
 -- The words of a text, taken off its front one by one.
-use Rattle.std.proofs.Common.{◌≡◌, ℕ, suc, ◌+◌, ◌<◌, Bool, true, false, cond, eqb, ltb, List, [], ◌∷◌, length, take, drop, filter, sym, refl, ap, ◌∙◌, ⊎_elim, one-add, arith, length-drop, length-take}
+use Rattle.std.proofs.Common.{◌≡◌, ℕ, ◌+◌, ◌<◌, Bool, true, false, cond, eqb, ltb, List, [], ◌∷◌, length, take, drop, filter, sym, refl, ap, ◌∙◌, ⊎_elim, one-add, arith, length-drop, length-take}
 use Rattle.std.specs.List.{prefix_len}
 use Rattle.std.proofs.lemmas.Bool.{cases_Bool, cond-true, cond-false, lt-ltb}
 use Rattle.sharing_text.specs.Words.{is_blank, onto, pieces, words, past_blanks, word_of, after_word}

@@ -1,5 +1,5 @@
 -- The answer to a line.
-use Rattle.std.specs.Prelude.{ℕ, cond, ◌||◌, List, [], ◌∷◌, Some, None, vec_items, Option, ◌==◌, slice_index}
+use Rattle.std.specs.Prelude.{ℕ, cond, List, [], ◌∷◌, Some, None, vec_items, Option, ◌==◌, slice_index}
 use Rattle.faults.specs.Numbers.{number_of as fault-number}
 use Rattle.sharing.specs.Chosen.{chosen}
 use Rattle.sharing.specs.Domain.{domain, outside_domain}
