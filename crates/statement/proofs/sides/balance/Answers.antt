@@ -8,12 +8,12 @@ pub returns : goal.returns
 returns c =
     let b = c.args.book.now in
     record {
-      owing-is-the-sum-shown = search rules;
-      purse-is-as-shown = search rules;
-      owed-is-the-sum-shown = search rules;
-      held-is-as-shown = search rules;
+      owing_is_the_sum_shown = search rules;
+      purse_is_as_shown = search rules;
+      owed_is_the_sum_shown = search rules;
+      held_is_as_shown = search rules;
       closes = search rules;
-      some-lawful-calls-led-here = b.came;
-      balanced-after-every-list-of-calls = always_balanced (view b);
-      order-of-joins-is-no-matter = order_no_matter;
+      some_lawful_calls_led_here = b.came;
+      balanced_after_every_list_of_calls = always_balanced (view b);
+      order_of_joins_is_no_matter = order_no_matter;
     }

@@ -14,7 +14,7 @@ use Rattle.book.proofs.state.Book.allocate.Goals as goal
 pub index-mut-requires : goal.index-mut-requires
 index-mut-requires c =
     let b = c.args.self.now in
-    let r = bounds b.parties c.args.party (sym c.if-not-has-party.ensures.value) in
+    let r = bounds b.parties c.args.party (sym c.if-not-has_party.ensures.value) in
     omega (arith, r.0, r.1, b.long.1, length-map (vec_items b.allocations) parts_of, b.allocations.ok.0)
 
 pub invariant-of-self : goal.invariant-of-self
@@ -22,11 +22,11 @@ invariant-of-self c =
     let b = c.args.self.now in
     let parts = listed c.args.parts.now in
     let party = c.args.party in
-    let whole : whole_parts (listed c.args.parts.now) ≡ true = passed (whole_parts parts) broken_parts c.in-ok-allocation.ensures.refuses in
-    let pays : payable b.parties (listed c.args.parts.now) ≡ true = sym c.if-not-payers-within.ensures in
+    let whole : whole_parts (listed c.args.parts.now) ≡ true = passed (whole_parts parts) broken_parts c.in_ok-allocation.ensures.refuses in
+    let pays : payable b.parties (listed c.args.parts.now) ≡ true = sym c.if-not-payers_within.ensures in
     let F : List Parts → State = λ lists. with_standing (view b) (record { connections = vec_items b.connections; allocations = lists; cost = b.cost; provider = provider_of b.provider }) in
-    let moved : map parts_of (set (vec_items b.allocations) (c.args.party - 1) c.in-ok-allocation.allocation) ≡ set (map parts_of (vec_items b.allocations)) (c.args.party - 1) (listed c.args.parts.now) =
-    map-set parts_of (vec_items b.allocations) (party - 1) c.in-ok-allocation.allocation ∙ ap (set (map parts_of (vec_items b.allocations)) (party - 1)) c.in-ok-allocation.ensures.holds in
+    let moved : map parts_of (set (vec_items b.allocations) (c.args.party - 1) c.in_ok-allocation.allocation) ≡ set (map parts_of (vec_items b.allocations)) (c.args.party - 1) (listed c.args.parts.now) =
+    map-set parts_of (vec_items b.allocations) (party - 1) c.in_ok-allocation.allocation ∙ ap (set (map parts_of (vec_items b.allocations)) (party - 1)) c.in_ok-allocation.ensures.holds in
     let same = ap F moved in
     let on : with_allocation (view b) c.args.party (listed c.args.parts.now) ≡ (step (view b) (allocate c.args.party (listed c.args.parts.now))).1 = search rules in
     ghosts _ (subst Sound (sym same) (allocation_sound (view b) (sound_of b) party parts whole pays)) (came_on (view b) _ (allocate party parts) tt refl refl (same ∙ on) b.came)
@@ -36,10 +36,10 @@ returns c =
     let b = c.args.self.now in
     let parts = listed c.args.parts.now in
     let party = c.args.party in
-    let whole : whole_parts (listed c.args.parts.now) ≡ true = passed (whole_parts parts) broken_parts c.in-ok-allocation.ensures.refuses in
+    let whole : whole_parts (listed c.args.parts.now) ≡ true = passed (whole_parts parts) broken_parts c.in_ok-allocation.ensures.refuses in
     let F : List Parts → State = λ lists. with_standing (view b) (record { connections = vec_items b.connections; allocations = lists; cost = b.cost; provider = provider_of b.provider }) in
-    let moved : map parts_of (set (vec_items b.allocations) (c.args.party - 1) c.in-ok-allocation.allocation) ≡ set (map parts_of (vec_items b.allocations)) (c.args.party - 1) (listed c.args.parts.now) =
-    map-set parts_of (vec_items b.allocations) (party - 1) c.in-ok-allocation.allocation ∙ ap (set (map parts_of (vec_items b.allocations)) (party - 1)) c.in-ok-allocation.ensures.holds in
+    let moved : map parts_of (set (vec_items b.allocations) (c.args.party - 1) c.in_ok-allocation.allocation) ≡ set (map parts_of (vec_items b.allocations)) (c.args.party - 1) (listed c.args.parts.now) =
+    map-set parts_of (vec_items b.allocations) (party - 1) c.in_ok-allocation.allocation ∙ ap (set (map parts_of (vec_items b.allocations)) (party - 1)) c.in_ok-allocation.ensures.holds in
     let same = ap F moved in
     let says : accepted ≡ (step (view b) (allocate c.args.party (listed c.args.parts.now))).0 = search rules in
     let on : with_allocation (view b) c.args.party (listed c.args.parts.now) ≡ (step (view b) (allocate c.args.party (listed c.args.parts.now))).1 = search rules in

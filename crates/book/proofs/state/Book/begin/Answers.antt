@@ -25,8 +25,8 @@ returns-in-Some g c =
     (g.M.Feed.sound c.args.month.now, (g.F.Feed.sound c.args.reference.now, (g.met.R.Rule.each c.args.rule.now, (g.met.R.Rule.all c.args.rule.now, g.met.R.Rule.none c.args.rule.now)))) in
     refusal b (begin rates t u m) c.in-Some.fault law (begin_stopped (view b) rates t u m c.in-Some.fault (sym c.obstacle.ensures ∙ c.in-Some.is))
 
-pub returns-in-err-excess : goal.returns-in-err-excess
-returns-in-err-excess g c =
+pub returns-in_err-excess : goal.returns-in_err-excess
+returns-in_err-excess g c =
     let b = c.args.self.now in
     let rates = c.args.rates.now in
     let t = g.M.Feed.table c.args.month.now in
@@ -34,9 +34,9 @@ returns-in-err-excess g c =
     let m = g.R.Rule.meaning c.args.rule.now in
     let law : LawfulCall (begin c.args.rates.now (g.M.Feed.table c.args.month.now) (g.F.Feed.table c.args.reference.now) (g.R.Rule.meaning c.args.rule.now)) =
     (g.M.Feed.sound c.args.month.now, (g.F.Feed.sound c.args.reference.now, (g.met.R.Rule.each c.args.rule.now, (g.met.R.Rule.all c.args.rule.now, g.met.R.Rule.none c.args.rule.now)))) in
-    let p = err_from_is_err_and c.from-residual.result c.from-residual.ensures.1 in
-    let ill = begun_ill (view b) (sound_of b) rates t u m c.work-out.result c.in-err-excess.field-0.0 _ _ (sym c.obstacle.ensures ∙ c.in-default.is) c.work-out.ensures c.in-err-excess.was in
-    rw (p.1, p.2) (refusal b (begin rates t u m) c.in-err-excess.field-0.0 law ill)
+    let p = err_from_is_err_and c.from_residual.result c.from_residual.ensures.1 in
+    let ill = begun_ill (view b) (sound_of b) rates t u m c.work_out.result c.in_err-excess.field-0.0 _ _ (sym c.obstacle.ensures ∙ c.in_default.is) c.work_out.ensures c.in_err-excess.was in
+    rw (p.1, p.2) (refusal b (begin rates t u m) c.in_err-excess.field-0.0 law ill)
 
 pub invariant-of-self : goal.invariant-of-self
 invariant-of-self g c =
@@ -47,9 +47,9 @@ invariant-of-self g c =
     let m = g.R.Rule.meaning c.args.rule.now in
     let law : LawfulCall (begin c.args.rates.now (g.M.Feed.table c.args.month.now) (g.F.Feed.table c.args.reference.now) (g.R.Rule.meaning c.args.rule.now)) =
     (g.M.Feed.sound c.args.month.now, (g.F.Feed.sound c.args.reference.now, (g.met.R.Rule.each c.args.rule.now, (g.met.R.Rule.all c.args.rule.now, g.met.R.Rule.none c.args.rule.now)))) in
-    let clear = sym c.obstacle.ensures ∙ c.in-default.is in
-    let copied = with_items_is b.notes c.copy-from-slice.new.self (c.copy-from-slice.ensures.len ∙ c.as-mut-slice.ensures.len) ∙ c.copy-from-slice.ensures.after in
-    let well = begun_well (view b) (sound_of b) rates t u m c.work-out.result c.in-ok-excess.excess _ c.work-out.new.notes (vec_items (with_items b.notes c.copy-from-slice.new.self)) clear c.work-out.ensures c.in-ok-excess.was copied in
+    let clear = sym c.obstacle.ensures ∙ c.in_default.is in
+    let copied = with_items_is b.notes c.copy_from_slice.new.self (c.copy_from_slice.ensures.len ∙ c.as_mut_slice.ensures.len) ∙ c.copy_from_slice.ensures.after in
+    let well = begun_well (view b) (sound_of b) rates t u m c.work_out.result c.in_ok-excess.excess _ c.work_out.new.notes (vec_items (with_items b.notes c.copy_from_slice.new.self)) clear c.work_out.ensures c.in_ok-excess.was copied in
     ghosts _ well.2 (came_on (view b) _ (begin rates t u m) law refl refl well.1 b.came)
 
 pub returns : goal.returns
@@ -61,7 +61,7 @@ returns g c =
     let m = g.R.Rule.meaning c.args.rule.now in
     let law : LawfulCall (begin c.args.rates.now (g.M.Feed.table c.args.month.now) (g.F.Feed.table c.args.reference.now) (g.R.Rule.meaning c.args.rule.now)) =
     (g.M.Feed.sound c.args.month.now, (g.F.Feed.sound c.args.reference.now, (g.met.R.Rule.each c.args.rule.now, (g.met.R.Rule.all c.args.rule.now, g.met.R.Rule.none c.args.rule.now)))) in
-    let clear = sym c.obstacle.ensures ∙ c.in-default.is in
-    let copied = with_items_is b.notes c.copy-from-slice.new.self (c.copy-from-slice.ensures.len ∙ c.as-mut-slice.ensures.len) ∙ c.copy-from-slice.ensures.after in
-    let well = begun_well (view b) (sound_of b) rates t u m c.work-out.result c.in-ok-excess.excess _ c.work-out.new.notes (vec_items (with_items b.notes c.copy-from-slice.new.self)) clear c.work-out.ensures c.in-ok-excess.was copied in
+    let clear = sym c.obstacle.ensures ∙ c.in_default.is in
+    let copied = with_items_is b.notes c.copy_from_slice.new.self (c.copy_from_slice.ensures.len ∙ c.as_mut_slice.ensures.len) ∙ c.copy_from_slice.ensures.after in
+    let well = begun_well (view b) (sound_of b) rates t u m c.work_out.result c.in_ok-excess.excess _ c.work_out.new.notes (vec_items (with_items b.notes c.copy_from_slice.new.self)) clear c.work_out.ensures c.in_ok-excess.was copied in
     record { answers = well.0; becomes = well.1; unchanged = λ x. absurd x; lawful = law; onward = onward_from (view b) _ (begin rates t u m) well.1 law }

@@ -13,5 +13,5 @@ invariant-of-self c =
     let s' : State = with_cost (view b) c.args.provider c.args.cents in
     let e : s' ≡ (step (view b) (set_cost c.args.provider c.args.cents)).1 = search rules in
     let most : c.args.cents ≤ 1000000000 = search rules in
-    let inside = c.if-not-has-party.ensures.holds refl in
+    let inside = c.if-not-has_party.ensures.holds refl in
     ghosts s' (cost_sound (view b) (sound_of b) provider c.args.cents inside.0 inside.1 most) (came_on (view b) s' (set_cost provider c.args.cents) tt refl refl e b.came)

@@ -18,20 +18,20 @@ filled_credits : (b : Book) (xs : _) → xs ≡ credits_on (vec_items b.notes) �
 filled_credits b xs e =
     with_items_is b.owed xs (omega (arith, ap length e, length-map (vec_items b.notes) (λ n. n.credit), b.long.2, b.long.4, b.owed.ok.0)) ∙ e
 
-pub take-over-requires : goal.take-over-requires
-take-over-requires c =
+pub take_over-requires : goal.take_over-requires
+take_over-requires c =
     let b = c.args.self.now in
     record {
-      owing = omega (arith, ap length c.as-mut-slice.ensures.value, ap length c.as-slice.ensures.value, b.long.2, b.long.3);
-      owed = omega (arith, ap length c.as-mut-slice-2.ensures.value, ap length c.as-slice.ensures.value, b.long.2, b.long.4);
+      owing = omega (arith, ap length c.as_mut_slice.ensures.value, ap length c.as_slice.ensures.value, b.long.2, b.long.3);
+      owed = omega (arith, ap length c.as_mut_slice-2.ensures.value, ap length c.as_slice.ensures.value, b.long.2, b.long.4);
     }
 
 pub invariant-of-self : goal.invariant-of-self
 invariant-of-self c =
     let b = c.args.self.now in
-    let d = c.refuses.ensures.drafted c.in-default.is in
-    let eo = filled_dues b c.take-over.new.owing (c.take-over.ensures.owing ∙ ap dues_on c.as-slice.ensures.value) in
-    let ew = filled_credits b c.take-over.new.owed (c.take-over.ensures.owed ∙ ap credits_on c.as-slice.ensures.value) in
+    let d = c.refuses.ensures.drafted c.in_default.is in
+    let eo = filled_dues b c.take_over.new.owing (c.take_over.ensures.owing ∙ ap dues_on c.as_slice.ensures.value) in
+    let ew = filled_credits b c.take_over.new.owed (c.take_over.ensures.owed ∙ ap credits_on c.as_slice.ensures.value) in
     let same = issued_same (view b) _ _ eo ew in
     let goes : issuing (view b) ≡ (step (view b) (issue c.args.claim.run)).1 = search rules in
     ghosts _ (issuing_sound (view b) (sound_of b) d _ _ eo ew) (came_on (view b) _ (issue c.args.claim.run) tt refl refl (same ∙ goes) b.came)
@@ -39,12 +39,12 @@ invariant-of-self c =
 pub returns : goal.returns
 returns c =
     let b = c.args.self.now in
-    let eo = filled_dues b c.take-over.new.owing (c.take-over.ensures.owing ∙ ap dues_on c.as-slice.ensures.value) in
-    let ew = filled_credits b c.take-over.new.owed (c.take-over.ensures.owed ∙ ap credits_on c.as-slice.ensures.value) in
+    let eo = filled_dues b c.take_over.new.owing (c.take_over.ensures.owing ∙ ap dues_on c.as_slice.ensures.value) in
+    let ew = filled_credits b c.take_over.new.owed (c.take_over.ensures.owed ∙ ap credits_on c.as_slice.ensures.value) in
     let same = issued_same (view b) _ _ eo ew in
     let says : accepted ≡ (step (view b) (issue c.args.claim.run)).0 = search rules in
     let goes : issuing (view b) ≡ (step (view b) (issue c.args.claim.run)).1 = search rules in
     record {
       steps = record { answers = says; becomes = same ∙ goes; unchanged = λ x. absurd x; lawful = tt; onward = onward_from (view b) _ (issue c.args.claim.run) (same ∙ goes) tt };
-      refused-claim-is-handed-back = tt;
+      refused_claim_is_handed_back = tt;
     }

@@ -6,7 +6,7 @@ use Rattle.book.proofs.state.Book.obstacle.Goals as goal
 pub returns : goal.returns
 returns g c =
     let b = c.args.self.now in
-    sym (cond-true _ _ _ (sym c.if-not-is-open.ensures)
+    sym (cond-true _ _ _ (sym c.if-not-is_open.ensures)
     ∙ cond-true _ _ _ (lt-ltb b.run 1000 c.if-self-ge-MOST-RUNS.false)
-    ∙ cond-true _ _ _ (sym c.if-not-feeds-fit.ensures)
-    ∙ cond-true _ _ _ (ap all_connected (sym c.as-slice.ensures.value) ∙ sym c.if-not-are-all-connected.ensures))
+    ∙ cond-true _ _ _ (sym c.if-not-feeds_fit.ensures)
+    ∙ cond-true _ _ _ (ap all_connected (sym c.as_slice.ensures.value) ∙ sym c.if-not-are_all_connected.ensures))

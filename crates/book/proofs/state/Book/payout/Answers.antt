@@ -10,11 +10,11 @@ use Rattle.book.proofs.state.Book.payout.Goals as goal
 pub invariant-of-self : goal.invariant-of-self
 invariant-of-self c =
     let b = c.args.self.now in
-    let r = bounds b.parties c.args.payee (sym c.if-not-has-party.ensures.value) in
+    let r = bounds b.parties c.args.payee (sym c.if-not-has_party.ensures.value) in
     let l : c.args.payee - 1 < length (vec_items b.owed) = omega (arith, b.long.4, r.0, r.1) in
     let v = c.index-owed.result.now in
     let e = get_or_read (vec_items b.owed) (c.args.payee - 1) c.index-owed.result.now l c.index-owed.ensures 0 in
     let s' : State = with_accounts (view b) (record { owing = vec_items b.owing; owed = set (vec_items b.owed) (c.args.payee - 1) (c.index-owed.result.now - c.args.cents); purse = b.purse - c.args.cents }) in
-    let good = paying_out_sound (view b) (sound_of b) c.args.payee c.args.cents v e (sym c.if-not-is-issued.ensures) (sym c.if-not-has-party.ensures.value) (sym c.if-not-is-within.ensures.value) c.if-cents-self.false in
+    let good = paying_out_sound (view b) (sound_of b) c.args.payee c.args.cents v e (sym c.if-not-is_issued.ensures) (sym c.if-not-has_party.ensures.value) (sym c.if-not-is_within.ensures.value) c.if-cents-self.false in
     let on : s' ≡ (step (view b) (payout c.args.payee c.args.cents)).1 = search rules in
     ghosts s' good (came_on (view b) s' (payout c.args.payee c.args.cents) tt refl refl on b.came)

@@ -18,8 +18,8 @@ wiped b was now' e w =
 pub invariant-of-self : goal.invariant-of-self
 invariant-of-self c =
     let b = c.args.self.now in
-    let d = c.refuses.ensures.drafted c.in-default.is in
-    let e = wiped b c.as-mut-slice.result.now c.wipe.new.notes c.as-mut-slice.ensures.value c.wipe.ensures in
+    let d = c.refuses.ensures.drafted c.in_default.is in
+    let e = wiped b c.as_mut_slice.result.now c.wipe.new.notes c.as_mut_slice.ensures.value c.wipe.ensures in
     let same = withdrawn_same (view b) _ e in
     let goes : withdrawing (view b) ≡ (step (view b) (withdraw c.args.claim.run)).1 = search rules in
     ghosts _ (withdrawing_sound (view b) (sound_of b) d _ e) (came_on (view b) _ (withdraw c.args.claim.run) tt refl refl (same ∙ goes) b.came)
@@ -27,11 +27,11 @@ invariant-of-self c =
 pub returns : goal.returns
 returns c =
     let b = c.args.self.now in
-    let e = wiped b c.as-mut-slice.result.now c.wipe.new.notes c.as-mut-slice.ensures.value c.wipe.ensures in
+    let e = wiped b c.as_mut_slice.result.now c.wipe.new.notes c.as_mut_slice.ensures.value c.wipe.ensures in
     let same = withdrawn_same (view b) _ e in
     let says : accepted ≡ (step (view b) (withdraw c.args.claim.run)).0 = search rules in
     let goes : withdrawing (view b) ≡ (step (view b) (withdraw c.args.claim.run)).1 = search rules in
     record {
       steps = record { answers = says; becomes = same ∙ goes; unchanged = λ x. absurd x; lawful = tt; onward = onward_from (view b) _ (withdraw c.args.claim.run) (same ∙ goes) tt };
-      refused-claim-is-handed-back = tt;
+      refused_claim_is_handed_back = tt;
     }

@@ -8,7 +8,7 @@ use Rattle.book.proofs.state.opens.own_bills.Goals as goal
 
 pub loop-i-preserved : goal.loop-i-preserved
 loop-i-preserved c =
-    ap (map parts_of) c.in-default.ensures.items
+    ap (map parts_of) c.in_default.ensures.items
     ∙ map_push parts_of (vec_items c.loop-i.bills) c.own.result
     ∙ ap (λ (xs : List Parts). xs ++ parts_of c.own.result ∷ []) c.loop-i.invariant
     ∙ ap (λ (p : Parts). own_bills c.loop-i.i ++ p ∷ []) c.own.ensures
