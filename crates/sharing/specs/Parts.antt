@@ -1,12 +1,11 @@
 -- The whole shares, what they leave, and who has a cent of that.
-use Rattle.std.specs.Prelude.{◌≡◌, ℕ, zero, suc, ◌+◌, ◌-◌, ◌*◌, ◌/◌, ◌%◌, ◌<◌, ◌≤◌, Bool, true, false, cond, ◌||◌, ltb, List, map, length, sum, ◌≢◌, nat_lt, slice_index, refl}
-use Rattle.std.proofs.Common.{sym, ap, subst, ◌∙◌, ⊎_elim, mul_comm, mul-zero, add-mul, le_of_mul-le-mul_right, arith}
+use Rattle.std.specs.Prelude.{◌≡◌, ℕ, zero, suc, ◌+◌, ◌*◌, ◌/◌, ◌%◌, ◌<◌, ◌≤◌, Bool, true, false, ltb, List, length, sum, ◌≢◌, nat_lt, slice_index}
+use Rattle.std.proofs.Common.{ap, ◌∙◌, mul_comm, mul-zero, add-mul, le_of_mul-le-mul_right, arith}
 use Rattle.std.proofs.Math.Nat.{zero-div, zero-mod}
-use Rattle.std.specs.List.{range_with_len}
 use Rattle.std.proofs.lemmas.Nat.{mul-le, div-add-mod', mod_below}
 use Rattle.std.proofs.lemmas.List.FromFn.{length-map-range_with_len, get_or-map-range_with_len}
 use Rattle.std.proofs.lemmas.List.Sums.{get_or-le-sum_by}
-use Rattle.std.proofs.lemmas.Bool.{cases_lt, lt-ltb, le-ltb, or_left}
+use Rattle.std.proofs.lemmas.Bool.{lt-ltb, le-ltb, or_left}
 use Rattle.std.proofs.lemmas.Bool.Decides.{nat_tests}
 use Rattle.sharing.specs.Domain.{OneEach, AddsUp, NoneForNone}
 use Rattle.sharing.specs.Weights.{one_if, sum_of, count, whole, remainder, left_over, first, served_before, part, by_weight}

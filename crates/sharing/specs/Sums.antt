@@ -1,6 +1,6 @@
 -- The sum of a function over the places 0 .. n - 1.
 use Rattle.std.specs.Prelude.{◌≡◌, ℕ, zero, suc, ◌+◌, ◌*◌, ◌<◌, ◌≤◌, List, map, length, sum, slice_index, refl}
-use Rattle.std.proofs.Common.{sym, ap, ◌∙◌, mul-add, mul_comm, mul-zero, add-one, arith}
+use Rattle.std.proofs.Common.{sym, ap, ◌∙◌, mul-add, mul-zero, add-one, arith}
 use Rattle.std.proofs.Math.Decide.{le_ind}
 use Rattle.std.specs.List.{range_with_len}
 use Rattle.std.proofs.lemmas.List.FromFn.{sum_by-map-range_with_len_more, fill_by_all}

@@ -1,4 +1,4 @@
-use Rattle.std.proofs.Common.{◌≡◌, ℕ, ◌-◌, true, List, length, take, Err, sym, ap, ◌∙◌, arith}
+use Rattle.std.proofs.Common.{◌≡◌, ℕ, ◌-◌, true, List, length, take, Err, ap, ◌∙◌, arith}
 use Rattle.std.proofs.lemmas.Result.{err_from_is_err_and}
 use Rattle.sharing.specs.Domain.{accepts, answer, placed}
 use Rattle.sharing.specs.Heads.{heads, by_heads}
@@ -12,15 +12,15 @@ returns c =
     let amount = c.args.amount in
     let weights = c.args.weights.now in
     let places = c.args.shares.now in
-    let taken : accepts amount weights (length places) ≡ true = passed _ _ _ _ c.in-ok-total-in-domain.ensures in
-    let front : take (length weights - 0) c.write-heads.new.out ≡ heads weights = ap (λ n. take n c.write-heads.new.out) (omega arith) ∙ c.write-heads.ensures in
+    let taken : accepts amount weights (length places) ≡ true = passed _ _ _ _ c.in_ok-total_in_domain.ensures in
+    let front : take (length weights - 0) c.write_heads.new.out ≡ heads weights = ap (λ n. take n c.write_heads.new.out) (omega arith) ∙ c.write_heads.ensures in
     record {
       refuses_only_outside_the_domain = c.share.ensures.refuses_only_outside_the_domain ∙ ap (λ (ws : List ℕ). answer amount ws places) front ∙ same_answer amount weights places taken;
       writes_its_meaning_or_nothing = c.share.ensures.writes_its_meaning_or_nothing ∙ ap (λ (ws : List ℕ). placed by_weight amount ws places) front ∙ same_places amount weights places taken;
     }
 
-pub returns-in-err-total-in-domain : goal.returns-in-err-total-in-domain
-returns-in-err-total-in-domain c =
-    let p = err_from_is_err_and c.from-residual.result c.from-residual.ensures.1 in
-    let q = refused by_heads c.args.amount c.args.weights.now c.args.shares.now _ _ c.from-residual.result c.in-err-total-in-domain.ensures (p.1 ∙ ap Err p.2) in
+pub returns-in_err-total_in_domain : goal.returns-in_err-total_in_domain
+returns-in_err-total_in_domain c =
+    let p = err_from_is_err_and c.from_residual.result c.from_residual.ensures.1 in
+    let q = refused by_heads c.args.amount c.args.weights.now c.args.shares.now _ _ c.from_residual.result c.in_err-total_in_domain.ensures (p.1 ∙ ap Err p.2) in
     record { refuses_only_outside_the_domain = q.0; writes_its_meaning_or_nothing = q.1 }

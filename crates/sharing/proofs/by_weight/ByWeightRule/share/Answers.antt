@@ -7,21 +7,21 @@ use Rattle.sharing.specs.Domains.{refused}
 use Rattle.sharing.proofs.Fairs.{written_fair}
 use Rattle.sharing.proofs.by_weight.ByWeightRule.share.Goals as goal
 
-pub returns-in-err-total : goal.returns-in-err-total
-returns-in-err-total c =
-    let p = err_from_is_err_and c.from-residual.result c.from-residual.ensures.1 in
-    let q = refused by_weight c.args.amount c.args.weights.now c.args.shares.now _ _ c.from-residual.result c.in-err-total.ensures (p.1 ∙ ap Err p.2) in
+pub returns-in_err-total : goal.returns-in_err-total
+returns-in_err-total c =
+    let p = err_from_is_err_and c.from_residual.result c.from_residual.ensures.1 in
+    let q = refused by_weight c.args.amount c.args.weights.now c.args.shares.now _ _ c.from_residual.result c.in_err-total.ensures (p.1 ∙ ap Err p.2) in
     record {
       refuses_only_outside_the_domain = q.0;
       writes_its_meaning_or_nothing = q.1;
-      shares-are-fair = λ h. absurd (both_ways _ q.2 h);
+      shares_are_fair = λ h. absurd (both_ways _ q.2 h);
     }
 
 pub returns : goal.returns
 returns c =
-    let written : c.give-odd-cents.new.shares ≡ placed by_weight c.args.amount c.args.weights.now c.args.shares.now = search rules in
+    let written : c.give_odd_cents.new.shares ≡ placed by_weight c.args.amount c.args.weights.now c.args.shares.now = search rules in
     record {
       refuses_only_outside_the_domain = search rules;
       writes_its_meaning_or_nothing = written;
-      shares-are-fair = written_fair c.args.amount c.args.weights.now c.args.shares.now _ written;
+      shares_are_fair = written_fair c.args.amount c.args.weights.now c.args.shares.now _ written;
     }

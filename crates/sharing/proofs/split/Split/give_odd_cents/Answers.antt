@@ -5,7 +5,7 @@ use Rattle.std.proofs.lemmas.Bool.{lt-ltb, le-ltb}
 use Rattle.sharing.specs.Weights.{one_if, whole, part, remainder, served_before, left_over}
 use Rattle.sharing.specs.Parts.{whole_front}
 use Rattle.sharing.proofs.split.Split.give_odd_cents.Goals as goal
-use Rattle.sharing.proofs.split.Split.give_odd_cents.Goals.{then-places-before-left, else-places-before-left}
+use Rattle.sharing.proofs.split.Split.give_odd_cents.Goals.{then-places_before-left, else-places_before-left}
 
 -- there are as many places as weights
 as_many : (amount : ℕ) (weights shares : List ℕ) → shares ≡ map (whole amount weights) (range_with_len 0 (length weights)) → length shares ≡ length weights
@@ -27,13 +27,13 @@ loop-i-init c =
       λ k l h. ap (λ (xs : List ℕ). get_or xs k 0) c.requires.wholes ∙ get_or-map-range_with_len (whole split.amount split.weights.now) 0 (length split.weights.now) k k 0 h (omega arith),
     )
 
-pub places-before-requires : goal.places-before-requires
-places-before-requires c =
+pub places_before-requires : goal.places_before-requires
+places_before-requires c =
     let split = c.args.self.now in
     omega (arith, as_many split.amount split.weights.now c.args.shares.now c.requires.wholes)
 
-pub overflow-add-share : goal.overflow-add-share
-overflow-add-share c =
+pub overflow_add-share : goal.overflow_add-share
+overflow_add-share c =
     let split = c.args.self.now in
     let many = as_many split.amount split.weights.now c.args.shares.now c.requires.wholes in
     let within : c.loop-i.i < length split.weights.now = omega arith in
@@ -50,13 +50,13 @@ loop-i-preserved c =
     let many = as_many amount weights c.args.shares.now c.requires.wholes in
     let within : c.loop-i.i < length split.weights.now = omega arith in
     let here = c.loop-i.invariant.1 i (omega arith) within in
-    step amount weights old c.if-places-before-left.shares i within (omega arith) c.loop-i.invariant.0 c.loop-i.invariant.1
-    (elim c.if-places-before-left.branch [
-      | then-places-before-left w ↦
-          let cent = ap one_if (lt-ltb (served_before (remainder amount weights) (length weights) i) (left_over amount weights) (omega (arith, c.places-before.ensures, c.requires.rest, w.if-places-before-left.true))) in
+    step amount weights old c.if-places_before-left.shares i within (omega arith) c.loop-i.invariant.0 c.loop-i.invariant.1
+    (elim c.if-places_before-left.branch [
+      | then-places_before-left w ↦
+          let cent = ap one_if (lt-ltb (served_before (remainder amount weights) (length weights) i) (left_over amount weights) (omega (arith, c.places_before.ensures, c.requires.rest, w.if-places_before-left.true))) in
           w.shares-is ∙ ap (set old i) (omega (arith, cent, here))
-      | else-places-before-left w ↦
-          let cent = ap one_if (le-ltb (served_before (remainder amount weights) (length weights) i) (left_over amount weights) (omega (arith, c.places-before.ensures, c.requires.rest, w.if-places-before-left.false))) in
+      | else-places_before-left w ↦
+          let cent = ap one_if (le-ltb (served_before (remainder amount weights) (length weights) i) (left_over amount weights) (omega (arith, c.places_before.ensures, c.requires.rest, w.if-places_before-left.false))) in
           w.shares-is ∙ ap (set old i) (omega (arith, cent, here))
     ])
 
