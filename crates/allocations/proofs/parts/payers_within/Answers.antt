@@ -1,4 +1,4 @@
-use Rattle.std.proofs.Common.{◌≡◌, length, sym, ap, ◌∙◌, arith}
+use Rattle.std.proofs.Common.{length, sym, ap, ◌∙◌, arith}
 use Rattle.allocations.specs.Parts.{listed, payer_at, one_of, payable}
 use Rattle.allocations.proofs.Belows.{below_more, one_fails, all_pass}
 use Rattle.allocations.proofs.Listed.{listed_long, payer_is}
