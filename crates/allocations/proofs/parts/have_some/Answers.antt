@@ -1,4 +1,4 @@
-use Rattle.std.proofs.Common.{◌≡◌, leb, length, ap, ◌∙◌, arith}
+use Rattle.std.proofs.Common.{leb, length, ap, ◌∙◌, arith}
 use Rattle.std.proofs.lemmas.Bool.{le-leb, lt-leb}
 use Rattle.allocations.specs.Parts.{listed, thousandths_at}
 use Rattle.allocations.proofs.Belows.{below_more, one_fails, all_pass}

@@ -6,19 +6,19 @@ use Rattle.allocations.proofs.Belows.{below_more, one_fails, all_pass}
 use Rattle.billing.specs.Standing.{all_payable}
 use Rattle.billing.proofs.standing.are_all_payable.Goals as goal
 
-pub returns-then-not-payers-within : goal.returns-then-not-payers-within
+pub returns-then-not-payers_within : goal.returns-then-not-payers_within
 unfolding all_payable
-returns-then-not-payers-within c =
+returns-then-not-payers_within c =
     let all = c.args.allocations.now in
     let q = c.loop-q.q in
     let long = length-map all parts_of in
-    one_fails (λ q. payable c.args.parties (get_or (map parts_of all) q [])) (length (map parts_of all)) q (omega arith) (ap (payable c.args.parties) (get_or-map parts_of all q record { parts = []; count = 0 } [] (omega arith) ∙ sym c.parts.ensures) ∙ sym c.payers-within.ensures ∙ c.if-not-payers-within.true)
+    one_fails (λ q. payable c.args.parties (get_or (map parts_of all) q [])) (length (map parts_of all)) q (omega arith) (ap (payable c.args.parties) (get_or-map parts_of all q record { parts = []; count = 0 } [] (omega arith) ∙ sym c.parts.ensures) ∙ sym c.payers_within.ensures ∙ c.if-not-payers_within.true)
 
 pub loop-q-preserved : goal.loop-q-preserved
 loop-q-preserved c =
     let all = c.args.allocations.now in
     let q = c.loop-q.q in
-    below_more (λ q. payable c.args.parties (get_or (map parts_of all) q [])) q c.loop-q.invariant (ap (payable c.args.parties) (get_or-map parts_of all q record { parts = []; count = 0 } [] (omega arith) ∙ sym c.parts.ensures) ∙ sym c.payers-within.ensures ∙ c.if-not-payers-within.false)
+    below_more (λ q. payable c.args.parties (get_or (map parts_of all) q [])) q c.loop-q.invariant (ap (payable c.args.parties) (get_or-map parts_of all q record { parts = []; count = 0 } [] (omega arith) ∙ sym c.parts.ensures) ∙ sym c.payers_within.ensures ∙ c.if-not-payers_within.false)
 
 pub returns : goal.returns
 unfolding all_payable

@@ -6,19 +6,19 @@ use Rattle.allocations.proofs.Belows.{below_more, one_fails, all_pass}
 use Rattle.billing.specs.Standing.{all_whole}
 use Rattle.billing.proofs.standing.are_all_whole.Goals as goal
 
-pub returns-then-not-are-whole : goal.returns-then-not-are-whole
+pub returns-then-not-are_whole : goal.returns-then-not-are_whole
 unfolding all_whole
-returns-then-not-are-whole c =
+returns-then-not-are_whole c =
     let all = c.args.allocations.now in
     let q = c.loop-q.q in
     let long = length-map all parts_of in
-    one_fails (λ q. whole_parts (get_or (map parts_of all) q [])) (length (map parts_of all)) q (omega arith) (ap whole_parts (get_or-map parts_of all q record { parts = []; count = 0 } [] (omega arith) ∙ sym c.parts.ensures) ∙ sym c.are-whole.ensures ∙ c.if-not-are-whole.true)
+    one_fails (λ q. whole_parts (get_or (map parts_of all) q [])) (length (map parts_of all)) q (omega arith) (ap whole_parts (get_or-map parts_of all q record { parts = []; count = 0 } [] (omega arith) ∙ sym c.parts.ensures) ∙ sym c.are_whole.ensures ∙ c.if-not-are_whole.true)
 
 pub loop-q-preserved : goal.loop-q-preserved
 loop-q-preserved c =
     let all = c.args.allocations.now in
     let q = c.loop-q.q in
-    below_more (λ q. whole_parts (get_or (map parts_of all) q [])) q c.loop-q.invariant (ap whole_parts (get_or-map parts_of all q record { parts = []; count = 0 } [] (omega arith) ∙ sym c.parts.ensures) ∙ sym c.are-whole.ensures ∙ c.if-not-are-whole.false)
+    below_more (λ q. whole_parts (get_or (map parts_of all) q [])) q c.loop-q.invariant (ap whole_parts (get_or-map parts_of all q record { parts = []; count = 0 } [] (omega arith) ∙ sym c.parts.ensures) ∙ sym c.are_whole.ensures ∙ c.if-not-are_whole.false)
 
 pub returns : goal.returns
 unfolding all_whole
