@@ -1,4 +1,4 @@
-use Rattle.std.proofs.Common.{◌≡◌, length, sym, ◌∙◌, rules}
+use Rattle.std.proofs.Common.{length, sym, ◌∙◌, rules}
 use Rattle.billing.specs.Run.{inputs, ran}
 use Rattle.billing.proofs.Fits.{fit_from, ran_settled, run_from}
 use Rattle.billing.proofs.running.run.Goals as goal
