@@ -8,7 +8,7 @@ returns c =
     let kind = c.args.kind in
     let body = c.args.body.now in
     let before = c.args.out.now in
-    let after = c.put-record.new.out in
+    let after = c.put_record.new.out in
     let r = Some (4 + length body) in
     let h : Puts kind body before after r = search rules in
-    record { writes-the-record = h; written-opens-again = puts_back kind body before after r (omega arith) h }
+    record { writes_the_record = h; written_opens_again = puts_back kind body before after r (omega arith) h }

@@ -46,4 +46,4 @@ returns-in-5-len5 c =
     let b : get_or xs 2 0 < 256 = omega arith in
     let d : get_or xs 3 0 < 256 = omega arith in
     let e : get_or xs 4 0 < 256 = omega arith in
-    (rw (k, h), c.from-le-bytes.type-inv, sym k, simp (c.from-le-bytes.ensures, four_bytes _ _ _ _ a b d e) (elements_5 xs h))
+    (rw (k, h), c.from_le_bytes.type_inv, sym k, simp (c.from_le_bytes.ensures, four_bytes _ _ _ _ a b d e) (elements_5 xs h))

@@ -8,10 +8,10 @@ pub returns-in-Allocate : goal.returns-in-Allocate
 returns-in-Allocate c =
     let n = said c.args.notice.now in
     let before = c.args.out.now in
-    let after = c.put-allocation.new.out in
-    let r = c.put-allocation.result in
+    let after = c.put_allocation.new.out in
+    let r = c.put_allocation.result in
     let w : Writes n before after r = search rules in
     record {
-      writes-the-notice = w;
-      written-reads-back = writes_back n before after r (simp c.in-Allocate.is (well_parted c.in-Allocate.party c.in-Allocate.parts.now)) w;
+      writes_the_notice = w;
+      written_reads_back = writes_back n before after r (simp c.in-Allocate.is (well_parted c.in-Allocate.party c.in-Allocate.parts.now)) w;
     }
