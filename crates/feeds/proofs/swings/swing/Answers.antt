@@ -11,7 +11,7 @@ loop-k-init g c =
     let t = g.F.Feed.table c.args.feed.now in
     let p = c.args.point in
     let some : 0 < length t.rows = (g.F.Feed.sound c.args.feed.now).counts.2 in
-    let got = read_ok t p 1 _ c.in-ok-first.ensures in
+    let got = read_ok t p 1 _ c.in_ok-first.ensures in
     let w = ap withdrawn got.1 in
     let first = withdrawn_at t p 0 some in
     let low = fold_next t p min (get_or (withdrawals t p) 0 0) 0 some in
@@ -25,7 +25,7 @@ loop-k-preserved g c =
     let k = c.loop-k.k in
     let m = c.intervals-k-end.ensures in
     let more : k < length t.rows = omega arith in
-    let got = read_ok t p (k + 1) _ c.in-ok-withdrawn.ensures in
+    let got = read_ok t p (k + 1) _ c.in_ok-withdrawn.ensures in
     let w = ap withdrawn got.1 in
     let low = fold_next t p min (get_or (withdrawals t p) 0 0) k more in
     let high = fold_next t p max 0 k more in
@@ -34,8 +34,8 @@ loop-k-preserved g c =
     let i = c.loop-k.invariant in
     (i.0, omega arith, omega arith, omega arith)
 
-pub overflow-sub-result : goal.overflow-sub-result
-overflow-sub-result g c = c.loop-k.invariant.3
+pub overflow_sub-result : goal.overflow_sub-result
+overflow_sub-result g c = c.loop-k.invariant.3
 
 pub returns : goal.returns
 returns g c =
