@@ -1,5 +1,5 @@
 -- A book whose run meets no obstacle is a standing that can be settled.
-use Rattle.std.proofs.Common.{◌≡◌, ℕ, zero, suc, ◌+◌, ◌<◌, ◌≤◌, Bool, true, false, cond, ◌&&◌, eqb, ltb, leb, List, [], map, length, get_or, is_ok as isOk, Some, None, Ok, Err, sum, Option, Result, sym, refl, ap, ◌∙◌, arith}
+use Rattle.std.proofs.Common.{◌≡◌, ℕ, zero, suc, ◌+◌, ◌<◌, ◌≤◌, Bool, true, false, cond, eqb, ltb, leb, List, [], map, length, get_or, is_ok as isOk, Some, None, Ok, Err, sum, Result, sym, refl, ap, ◌∙◌, arith}
 use Rattle.std.proofs.lemmas.List.{length-map}
 use Rattle.std.proofs.lemmas.Bool.{and_from, le-leb, eq-eqb, ltb-true, cond-true}
 use Rattle.faults.specs.declared.Fault.{Fault}
@@ -8,7 +8,7 @@ use Rattle.balancing.specs.declared.rates.Rates.{Rates}
 use Rattle.allocations.specs.Parts.{Parts, all_below, payable, whole_parts}
 use Rattle.billing.specs.declared.notes.Note.{Note}
 use Rattle.billing.specs.Run.{Inputs, then, charges_in, claims_in, held_in, notes_in, settled, feeds_fit, ran, Fit, Laws, Settled}
-use Rattle.billing.specs.Standing.{counted, all_payable, all_whole, provided, checked}
+use Rattle.billing.specs.Standing.{counted, all_payable, all_whole, checked}
 use Rattle.billing.proofs.Fits.{fit_from, ran_settled}
 use Rattle.book.specs.declared.state.Book.{Book}
 use Rattle.book.specs.Journey.{LawfulCall}

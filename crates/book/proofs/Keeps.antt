@@ -1,6 +1,5 @@
 -- Each change of a book keeps what holds of every book.
 use Rattle.std.proofs.Common.{◌≡◌, ℕ, zero, suc, ◌+◌, ◌-◌, ◌<◌, ◌≤◌, Bool, true, false, cond, ◌&&◌, eqb, leb, List, [], ◌∷◌, ◌++◌, map, length, get_or, set, replicate, Some, None, sum, Option, sym, refl, ap, ◌∙◌, subst, ⊎_elim, arith}
-use Rattle.std.specs.List.{range_with_len}
 use Rattle.std.proofs.lemmas.List.FromFn.{length-map-range_with_len, get_or-map-range_with_len, map-range_with_len_more}
 use Rattle.std.proofs.lemmas.List.{length-map, length-set, length-replicate, get_or-set_same, get_or-set_other}
 use Rattle.std.proofs.lemmas.List.Sums.{sum_by-set, get_or-le-sum_by, sum_by-cons}
@@ -17,15 +16,15 @@ use Rattle.book.specs.declared.state.Book.{Book}
 use Rattle.book.specs.Journey.{Came}
 use Rattle.book.specs.Model.{State, Accounts, Draft, is_open, is_drafted, is_issued, held, dues_on, credits_on, blank, own_bill, own_bills}
 use Rattle.book.specs.Sound.{Sound, Counted, Long, Bounded, Paid, Drawn, Even, Calm}
-use Rattle.book.specs.Steps.{Answer, accepted, step, appoint, nominate, appointed, nominated, connection_at, with_standing, with_connection, with_allocation, with_cost, with_accounts, issuing, withdrawing}
+use Rattle.book.specs.Steps.{accepted, step, appoint, nominate, appointed, nominated, connection_at, with_connection, with_allocation, with_cost, with_accounts, issuing, withdrawing}
 use Rattle.book.specs.View.{view}
 
 pub sound_of : (b : Book) → Sound (view b)
 sound_of b = record { counted = b.counted; long = b.long; bounded = b.bounded; paid = b.paid; drawn = b.drawn; even = b.even; calm = b.calm }
 
 -- as the ghost fields are asked for
-pub ghosts : (s : State) → Sound s → Came s → Counted s × (Long s × (Bounded s × (Paid s × (Drawn s × (Even s × (Calm s × (Came s × Unit {0})))))))
-ghosts s h e = (h.counted, (h.long, (h.bounded, (h.paid, (h.drawn, (h.even, (h.calm, (e, tt))))))))
+pub ghosts : (s : State) → Sound s → Came s → record { counted : Counted s; long : Long s; bounded : Bounded s; paid : Paid s; drawn : Drawn s; even : Even s; calm : Calm s; came : Came s }
+ghosts s h e = record { counted = h.counted; long = h.long; bounded = h.bounded; paid = h.paid; drawn = h.drawn; even = h.even; calm = h.calm; came = e }
 
 pub bounds : (n k : ℕ) → within n k ≡ true → (1 ≤ k) × (k ≤ n)
 bounds n k e = let p = and_parts (leb 1 k) (leb k n) e in (leb-true 1 k p.0, leb-true k n p.1)

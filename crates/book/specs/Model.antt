@@ -1,5 +1,5 @@
 -- What a book is.
-use Rattle.std.specs.Prelude.{ℕ, ◌+◌, Bool, true, false, cond, List, [], ◌∷◌, map, get_or, replicate, Some, None, Option}
+use Rattle.std.specs.Prelude.{ℕ, ◌+◌, Bool, true, false, cond, List, [], ◌∷◌, map, replicate, None, Option}
 use Rattle.std.specs.List.{range_with_len}
 use Rattle.allocations.specs.Parts.{Parts}
 use Rattle.allocations.specs.Falls.{parts_of}

@@ -1,5 +1,5 @@
 -- What holds of every book.
-use Rattle.std.specs.Prelude.{◌≡◌, ℕ, ◌+◌, ◌<◌, ◌≤◌, true, false, List, [], length, sum, slice_index_or}
+use Rattle.std.specs.Prelude.{◌≡◌, ℕ, ◌+◌, ◌<◌, ◌≤◌, true, false, [], length, sum, slice_index_or}
 use Rattle.allocations.specs.Parts.{payable, whole_parts}
 use Rattle.billing.specs.Standing.{provided}
 use Rattle.book.specs.Model.{State, is_issued, held, dues_on, credits_on}

@@ -11,7 +11,7 @@ use Rattle.billing.specs.declared.notes.Note.{Note}
 use Rattle.billing.specs.Run.{Inputs, notes_in, settled, feeds_fit}
 use Rattle.book.specs.declared.connection.Connection.{Connection}
 use Rattle.book.specs.declared.stage.Stage.TheVariants.{Open, Drafted, Issued}
-use Rattle.book.specs.Model.{State, Standing, Draft, Accounts, is_open, is_drafted, is_issued, dues_on, credits_on, no_draft}
+use Rattle.book.specs.Model.{State, Standing, Accounts, is_open, is_drafted, is_issued, dues_on, credits_on, no_draft}
 
 -- What a sharing rule means: the shares that an amount and weights have.
 abbrev pub Meaning : Type 0

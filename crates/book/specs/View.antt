@@ -4,7 +4,6 @@ use Rattle.faults.specs.declared.BookCause.TheVariants as because
 use Rattle.faults.specs.declared.Fault.{Fault}
 use Rattle.faults.specs.Numbers.{book_fault}
 use Rattle.tables.specs.Table.{within}
-use Rattle.billing.specs.declared.notes.Note.{Note}
 use Rattle.book.specs.declared.account.Account.{Account}
 use Rattle.book.specs.declared.claim.Claim.{Claim}
 use Rattle.book.specs.declared.claim.Unspent.{Unspent}

@@ -1,24 +1,24 @@
-use Rattle.std.proofs.Common.{◌≡◌, ◌-◌, true, List, map, length, set, vec_items, vec_len, sym, refl, ap, ◌∙◌, subst, arith, rules}
+use Rattle.std.proofs.Common.{◌≡◌, ◌-◌, true, List, map, set, vec_items, sym, refl, ap, ◌∙◌, subst, arith, rules}
 use Rattle.std.proofs.lemmas.List.{map-set, length-map}
 use Rattle.allocations.specs.Falls.{parts_of, broken_parts}
 use Rattle.allocations.specs.Parts.{Parts, listed, payable, whole_parts}
 use Rattle.billing.specs.Standing.{provider_of}
 use Rattle.book.specs.Model.{State}
 use Rattle.book.specs.Sound.{Sound}
-use Rattle.book.specs.Steps.{Answer, accepted, allocate, with_standing, with_allocation, step}
+use Rattle.book.specs.Steps.{accepted, allocate, with_standing, with_allocation, step}
 use Rattle.book.specs.View.{view}
 use Rattle.book.proofs.Keeps.{sound_of, ghosts, bounds, passed, allocation_sound}
 use Rattle.book.proofs.Onward.{onward_from, came_on}
 use Rattle.book.proofs.state.Book.allocate.Goals as goal
 
-pub index-mut-requires : goal.index-mut-requires
-index-mut-requires c =
+pub index_mut-requires : goal.index_mut-requires
+index_mut-requires c =
     let b = c.args.self.now in
     let r = bounds b.parties c.args.party (sym c.if-not-has_party.ensures.value) in
     omega (arith, r.0, r.1, b.long.1, length-map (vec_items b.allocations) parts_of, b.allocations.ok.0)
 
-pub invariant-of-self : goal.invariant-of-self
-invariant-of-self c =
+pub invariant_of-self : goal.invariant_of-self
+invariant_of-self c =
     let b = c.args.self.now in
     let parts = listed c.args.parts.now in
     let party = c.args.party in

@@ -1,14 +1,10 @@
-use Rattle.std.proofs.Common.{◌≡◌, ℕ, ◌+◌, true, List, length, is_ok, Some, None, Ok, Err, vec_items, sym, refl, ap, ◌∙◌, subst, arith}
+use Rattle.std.proofs.Common.{vec_items, sym, refl, ◌∙◌}
 use Rattle.std.specs.Vec.{with_items}
 use Rattle.std.proofs.lemmas.List.{with_items_is}
 use Rattle.std.proofs.lemmas.Result.{err_from_is_err_and}
-use Rattle.std.proofs.lemmas.Bool.{cond-true}
-use Rattle.tables.specs.Table.{Table}
-use Rattle.billing.specs.Run.{Inputs, ran, settled, notes_in}
 use Rattle.book.specs.Journey.{LawfulCall}
-use Rattle.book.specs.Model.{State}
-use Rattle.book.specs.Steps.{Answer, refused, begin, obstacle, inputs_of, step}
-use Rattle.book.specs.View.{view, Stepped}
+use Rattle.book.specs.Steps.{begin}
+use Rattle.book.specs.View.{view}
 use Rattle.book.proofs.Fits.{begun_well, begun_ill, begin_stopped, refusal}
 use Rattle.book.proofs.Keeps.{sound_of, ghosts}
 use Rattle.book.proofs.Onward.{onward_from, came_on}
@@ -38,8 +34,8 @@ returns-in_err-excess g c =
     let ill = begun_ill (view b) (sound_of b) rates t u m c.work_out.result c.in_err-excess.field-0.0 _ _ (sym c.obstacle.ensures ∙ c.in_default.is) c.work_out.ensures c.in_err-excess.was in
     rw (p.1, p.2) (refusal b (begin rates t u m) c.in_err-excess.field-0.0 law ill)
 
-pub invariant-of-self : goal.invariant-of-self
-invariant-of-self g c =
+pub invariant_of-self : goal.invariant_of-self
+invariant_of-self g c =
     let b = c.args.self.now in
     let rates = c.args.rates.now in
     let t = g.M.Feed.table c.args.month.now in

@@ -6,8 +6,8 @@ use Rattle.book.proofs.Keeps.{sound_of, ghosts, cost_sound}
 use Rattle.book.proofs.Onward.{came_on}
 use Rattle.book.proofs.state.Book.cost.Goals as goal
 
-pub invariant-of-self : goal.invariant-of-self
-invariant-of-self c =
+pub invariant_of-self : goal.invariant_of-self
+invariant_of-self c =
     let b = c.args.self.now in
     let provider = c.args.provider in
     let s' : State = with_cost (view b) c.args.provider c.args.cents in

@@ -1,9 +1,9 @@
-use Rattle.std.proofs.Common.{◌≡◌, true, length, vec_items, vec_len, sym, refl, ap, ◌∙◌, arith, rules}
+use Rattle.std.proofs.Common.{◌≡◌, length, vec_items, refl, ap, ◌∙◌, arith, rules}
 use Rattle.std.specs.Vec.{with_items}
 use Rattle.std.proofs.lemmas.List.{length-map, with_items_is}
 use Rattle.book.specs.declared.state.Book.{Book}
-use Rattle.book.specs.Model.{State, is_drafted, dues_on, credits_on}
-use Rattle.book.specs.Steps.{Answer, accepted, issue, issuing, step}
+use Rattle.book.specs.Model.{dues_on, credits_on}
+use Rattle.book.specs.Steps.{accepted, issue, issuing, step}
 use Rattle.book.specs.View.{view}
 use Rattle.book.proofs.Keeps.{sound_of, ghosts, issuing_sound, issued_same}
 use Rattle.book.proofs.Onward.{onward_from, came_on}
@@ -26,8 +26,8 @@ take_over-requires c =
       owed = omega (arith, ap length c.as_mut_slice-2.ensures.value, ap length c.as_slice.ensures.value, b.long.2, b.long.4);
     }
 
-pub invariant-of-self : goal.invariant-of-self
-invariant-of-self c =
+pub invariant_of-self : goal.invariant_of-self
+invariant_of-self c =
     let b = c.args.self.now in
     let d = c.refuses.ensures.drafted c.in_default.is in
     let eo = filled_dues b c.take_over.new.owing (c.take_over.ensures.owing ∙ ap dues_on c.as_slice.ensures.value) in

@@ -7,8 +7,8 @@ use Rattle.book.specs.Sound.{Sound}
 use Rattle.book.proofs.Keeps.{ghosts, opening, opening_sound}
 use Rattle.book.proofs.state.Book.new.Goals as goal
 
-pub invariant-of-result : goal.invariant-of-result
-invariant-of-result c =
+pub invariant_of-result : goal.invariant_of-result
+invariant_of-result c =
     let n = c.args.parties in
     let m = c.args.points in
     let i : within 32 c.args.parties ≡ true = search rules in

@@ -1,4 +1,4 @@
-use Rattle.std.proofs.Common.{◌≡◌, ◌-◌, ◌<◌, length, None, vec_items, sym, refl, ap, ◌∙◌, arith}
+use Rattle.std.proofs.Common.{◌-◌, ◌<◌, length, None, vec_items, sym, refl, ap, ◌∙◌, arith}
 use Rattle.std.proofs.lemmas.List.{get_or_read}
 use Rattle.book.specs.Model.{State}
 use Rattle.book.specs.Steps.{Answer, nominate, with_connection}
@@ -7,8 +7,8 @@ use Rattle.book.proofs.Keeps.{sound_of, ghosts, connection_sound, nominate_is}
 use Rattle.book.proofs.Onward.{came_on}
 use Rattle.book.proofs.state.Book.nominate.Goals as goal
 
-pub invariant-of-self : goal.invariant-of-self
-invariant-of-self c =
+pub invariant_of-self : goal.invariant_of-self
+invariant_of-self c =
     let b = c.args.self.now in
     let place = c.args.point - 1 in
     let inside = c.if-not-has_all.ensures.holds refl in

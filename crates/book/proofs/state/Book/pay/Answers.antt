@@ -1,4 +1,4 @@
-use Rattle.std.proofs.Common.{◌≡◌, ◌+◌, ◌-◌, ◌<◌, ◌≤◌, length, get_or, set, vec_items, sym, refl, ◌∙◌, arith, rules}
+use Rattle.std.proofs.Common.{◌≡◌, ◌+◌, ◌-◌, ◌<◌, length, set, vec_items, sym, refl, arith, rules}
 use Rattle.std.proofs.lemmas.List.{get_or_read}
 use Rattle.book.specs.Model.{State}
 use Rattle.book.specs.Steps.{pay, with_accounts, step}
@@ -17,8 +17,8 @@ overflow_add-self c =
     let o = one_of_sum (vec_items b.owing) (c.args.payer - 1) l in
     omega (arith, e, o, m.1, b.even.0, b.even.1)
 
-pub invariant-of-self : goal.invariant-of-self
-invariant-of-self c =
+pub invariant_of-self : goal.invariant_of-self
+invariant_of-self c =
     let b = c.args.self.now in
     let r = bounds b.parties c.args.payer (sym c.if-not-has_party.ensures.value) in
     let l : c.args.payer - 1 < length (vec_items b.owing) = omega (arith, b.long.3, r.0, r.1) in

@@ -1,4 +1,4 @@
-use Rattle.std.proofs.Common.{◌≡◌, ◌+◌, ◌-◌, ◌<◌, ◌≤◌, length, get_or, set, vec_items, sym, refl, ◌∙◌, arith, rules}
+use Rattle.std.proofs.Common.{◌≡◌, ◌-◌, ◌<◌, length, set, vec_items, sym, refl, arith, rules}
 use Rattle.std.proofs.lemmas.List.{get_or_read}
 use Rattle.book.specs.Model.{State}
 use Rattle.book.specs.Steps.{payout, with_accounts, step}
@@ -7,8 +7,8 @@ use Rattle.book.proofs.Keeps.{sound_of, ghosts, bounds, paying_out_sound}
 use Rattle.book.proofs.Onward.{came_on}
 use Rattle.book.proofs.state.Book.payout.Goals as goal
 
-pub invariant-of-self : goal.invariant-of-self
-invariant-of-self c =
+pub invariant_of-self : goal.invariant_of-self
+invariant_of-self c =
     let b = c.args.self.now in
     let r = bounds b.parties c.args.payee (sym c.if-not-has_party.ensures.value) in
     let l : c.args.payee - 1 < length (vec_items b.owed) = omega (arith, b.long.4, r.0, r.1) in

@@ -1,9 +1,9 @@
-use Rattle.std.proofs.Common.{◌≡◌, length, replicate, vec_items, vec_len, sym, refl, ap, ◌∙◌, arith, rules}
+use Rattle.std.proofs.Common.{◌≡◌, length, replicate, vec_items, refl, ap, ◌∙◌, arith, rules}
 use Rattle.std.specs.Vec.{with_items}
 use Rattle.std.proofs.lemmas.List.{length-replicate, with_items_is}
 use Rattle.book.specs.declared.state.Book.{Book}
-use Rattle.book.specs.Model.{State, blank}
-use Rattle.book.specs.Steps.{Answer, accepted, withdraw, withdrawing, step}
+use Rattle.book.specs.Model.{blank}
+use Rattle.book.specs.Steps.{accepted, withdraw, withdrawing, step}
 use Rattle.book.specs.View.{view}
 use Rattle.book.proofs.Keeps.{sound_of, ghosts, withdrawing_sound, withdrawn_same}
 use Rattle.book.proofs.Onward.{onward_from, came_on}
@@ -15,8 +15,8 @@ wiped b was now' e w =
     let long : now' ≡ replicate b.parties blank = w ∙ ap (λ n. replicate n blank) (ap length e ∙ b.long.2) in
     with_items_is b.notes now' (omega (arith, ap length long, length-replicate b.parties blank, b.long.2, b.notes.ok.0)) ∙ long
 
-pub invariant-of-self : goal.invariant-of-self
-invariant-of-self c =
+pub invariant_of-self : goal.invariant_of-self
+invariant_of-self c =
     let b = c.args.self.now in
     let d = c.refuses.ensures.drafted c.in_default.is in
     let e = wiped b c.as_mut_slice.result.now c.wipe.new.notes c.as_mut_slice.ensures.value c.wipe.ensures in

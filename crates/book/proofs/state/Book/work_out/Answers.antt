@@ -1,4 +1,4 @@
-use Rattle.std.proofs.Common.{◌≡◌, List, map, length, sym, ap, ◌∙◌, subst, arith}
+use Rattle.std.proofs.Common.{map, length, sym, ap, ◌∙◌, subst}
 use Rattle.allocations.specs.Falls.{parts_of}
 use Rattle.billing.specs.Run.{Inputs, Settled}
 use Rattle.book.specs.Steps.{nominee_number, nominator_number}

@@ -1,4 +1,3 @@
-use Rattle.std.proofs.Common.{sym}
 use Rattle.book.proofs.Connected.{connected_no, connected_more, connected_all}
 use Rattle.book.proofs.state.begins.are_all_connected.Goals as goal
 

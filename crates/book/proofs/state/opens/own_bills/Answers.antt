@@ -1,8 +1,8 @@
-use Rattle.std.proofs.Common.{◌≡◌, List, [], ◌∷◌, ◌++◌, map, vec_items, sym, refl, ap, ◌∙◌, arith}
+use Rattle.std.proofs.Common.{List, [], ◌∷◌, ◌++◌, map, vec_items, sym, ap, ◌∙◌, arith}
 use Rattle.std.proofs.lemmas.List.{map_push}
 use Rattle.allocations.specs.Falls.{parts_of}
 use Rattle.allocations.specs.Parts.{Parts}
-use Rattle.book.specs.Model.{own_bill, own_bills}
+use Rattle.book.specs.Model.{own_bills}
 use Rattle.book.proofs.Keeps.{own_bills_more}
 use Rattle.book.proofs.state.opens.own_bills.Goals as goal
 
