@@ -1,6 +1,6 @@
 -- A stretch of parts, part by part.
 use Rattle.std.proofs.Common.{◌≡◌, ℕ, zero, suc, ◌+◌, ◌*◌, ◌/◌, ◌%◌, ◌<◌, ltb, List, [], ◌∷◌, length, get_or, Some, None, sym, refl, ap, ◌∙◌, inl, inr, add-zero, add_assoc, arith}
-use Rattle.std.specs.List.{flat_map, AllByRecursion as All, slice_get}
+use Rattle.std.specs.List.{flat_map, AllByRecursion, slice_get}
 use Rattle.std.proofs.lemmas.Option.{slice_get_past}
 use Rattle.std.proofs.lemmas.Bool.{cases_lt, cond-false, cond-true, le-ltb, lt-ltb}
 use Rattle.files.specs.Numbers.{two_at}
@@ -27,7 +27,7 @@ next bs a b c i k =
 abbrev held : List ℕ → ℕ → Part
 held stretch i = record { payer = get_or stretch (3 * i) 0; thousandths = two_at stretch (3 * i + 1) }
 
-held_is : (ps : List Part) (i : ℕ) → i < length ps → All (λ p. p.thousandths < 65536) ps → Some (held (flat_map part_bytes ps) i) ≡ slice_get ps i
+held_is : (ps : List Part) (i : ℕ) → i < length ps → AllByRecursion (λ p. p.thousandths < 65536) ps → Some (held (flat_map part_bytes ps) i) ≡ slice_get ps i
 held_is [] i l h = absurd (omega arith)
 held_is (p ∷ ps) zero l h = ap (λ t. Some (record { payer = p.payer; thousandths = t })) (two_value p.thousandths h.0)
 held_is (p ∷ ps) (suc i) l h =

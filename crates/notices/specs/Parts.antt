@@ -1,6 +1,6 @@
 -- The parts of an allocation: three bytes each, a payer and its thousandths.
 use Rattle.std.specs.Prelude.{◌≡◌, ℕ, ◌+◌, ◌*◌, ◌/◌, ◌<◌, cond, List, ◌∷◌, length, Some, None, Option, nat_lt, slice_index}
-use Rattle.std.specs.List.{flat_map, AllByRecursion as All, slice_get}
+use Rattle.std.specs.List.{flat_map, AllByRecursion, slice_get}
 use Rattle.files.specs.Numbers.{two, two_at}
 use Rattle.notices.specs.declared.part.Part.{Part}
 
@@ -21,7 +21,7 @@ part_of stretch i =
 
 -- A stretch of parts, one after another.
 abbrev pub Stretch : List ℕ → List Part → Type 0
-Stretch stretch parts = All (λ p. p.thousandths < 65536) parts × (stretch ≡ flat_map part_bytes parts)
+Stretch stretch parts = AllByRecursion (λ p. p.thousandths < 65536) parts × (stretch ≡ flat_map part_bytes parts)
 
 -- As many parts are counted as were written.
 abbrev pub CountsParts : List ℕ → ℕ → Type 0
