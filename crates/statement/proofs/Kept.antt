@@ -1,24 +1,21 @@
 -- What every accepted call keeps between a book and its journal.
-use Rattle.std.proofs.Common.{◌≡◌, ℕ, zero, suc, ◌+◌, ◌-◌, ◌<◌, ◌≤◌, Bool, true, false, cond, ◌&&◌, eqb, ltb, leb, List, [], ◌∷◌, map, length, get_or, set, replicate, Some, None, Ok, sum, Option, unwrap_or, sym, refl, ap, ◌∙◌, subst, ⊎_elim, arith}
-use Rattle.std.specs.List.{range_with_len}
+use Rattle.std.proofs.Common.{◌≡◌, ℕ, ◌+◌, ◌-◌, ◌<◌, ◌≤◌, Bool, true, false, cond, ◌&&◌, eqb, leb, List, [], ◌∷◌, length, get_or, set, replicate, Some, None, Ok, sum, Option, unwrap_or, sym, refl, ap, ◌∙◌, subst, ⊎_elim, arith}
 use Rattle.std.specs.Option.{option_map}
 use Rattle.std.proofs.lemmas.List.FromFn.{fill_by_all, get_or-map-range_with_len}
 use Rattle.std.proofs.lemmas.List.{length-replicate, get_or-replicate, get_or_past}
 use Rattle.std.proofs.lemmas.Bool.{both_ways, and_parts, leb-true, cond-true, cond-false, cases_Bool, cases_lt, eqb-true}
 use Rattle.faults.specs.declared.Fault.{Fault}
-use Rattle.tables.specs.Table.{Table, within}
-use Rattle.balancing.specs.declared.rates.Rates.{Rates}
+use Rattle.tables.specs.Table.{within}
 use Rattle.allocations.specs.Parts.{Parts, payable, whole_parts}
-use Rattle.billing.specs.declared.notes.Note.{Note}
 use Rattle.billing.specs.Run.{Inputs, held_in, notes_in, settled, Laws}
 use Rattle.billing.proofs.Laws.{laws_hold}
 use Rattle.book.specs.declared.connection.Connection.{Connection}
 use Rattle.book.specs.declared.stage.Stage.{Stage}
 use Rattle.book.specs.declared.stage.Stage.TheVariants.{Open, Drafted, Issued}
-use Rattle.book.specs.Model.{State, is_open, is_drafted, is_issued, held, dues_on, credits_on, own_bill, own_bills, new_book}
+use Rattle.book.specs.Model.{State, is_open, is_drafted, is_issued, dues_on, credits_on, own_bill, new_book}
 use Rattle.book.specs.Journey.{Keeps}
 use Rattle.book.specs.Sound.{Sound}
-use Rattle.book.specs.Steps.{Call, connect, appoint, nominate, allocate, set_cost, begin, issue, withdraw, pay, payout, Answer, accepted, began, refused, Meaning, connection_at, nominee_number, nominator_number, inputs_of, with_connection, with_allocation, with_cost, drafting, issuing, withdrawing, paying, paying_out, obstacle}
+use Rattle.book.specs.Steps.{Call, connect, appoint, nominate, allocate, set_cost, begin, issue, withdraw, pay, payout, Answer, accepted, began, refused, connection_at, nominee_number, nominator_number, inputs_of, with_connection, with_allocation, with_cost, drafting, issuing, withdrawing, paying, paying_out, obstacle}
 use Rattle.book.proofs.Keeps.{bounds, drafted_not_issued, open_not_issued, connection_sound, allocation_sound, cost_sound, issuing_sound, withdrawing_sound, paying_sound, paying_out_sound, drafting_sound, opening_sound, lower}
 use Rattle.book.proofs.Fits.{clear_way, fits, excess_is, ok_is, drawn}
 use Rattle.statement.specs.Formulas.{user_of, nominator_of, nominee_of, allocation_of, cost_of, provider_number, run_of, stage_of, paid_by, paid_out_to, all_payments, all_payouts, inputs_by}

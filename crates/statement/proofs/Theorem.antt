@@ -1,24 +1,21 @@
 -- After any list of lawful calls on a new book, it is balanced by its journal.
-use Rattle.std.proofs.Common.{◌≡◌, ℕ, ◌+◌, ◌-◌, ◌<◌, Bool, true, false, cond, ◌&&◌, leb, List, [], ◌∷◌, map, length, get_or, Some, None, Ok, Err, sum, Option, Result, sym, refl, ap, ◌∙◌, subst, arith}
+use Rattle.std.proofs.Common.{◌≡◌, ℕ, true, false, ◌&&◌, List, [], ◌∷◌, map, get_or, Some, None, Ok, Err, sum, Option, Result, sym, refl, ap, ◌∙◌, subst}
 use Rattle.std.proofs.lemmas.Bool.{cond_both, cond-true}
-use Rattle.faults.specs.declared.BookCause.TheVariants as because
 use Rattle.faults.specs.declared.Fault.{Fault}
 use Rattle.tables.specs.Table.{Table, within}
 use Rattle.balancing.specs.declared.rates.Rates.{Rates}
-use Rattle.allocations.specs.Parts.{Parts, payable, whole_parts}
-use Rattle.billing.specs.Run.{Inputs, charges_in, dues_in, credits_in, held_in, notes_in, settled}
+use Rattle.billing.specs.Run.{Inputs, settled}
 use Rattle.book.specs.declared.connection.Connection.{Connection}
 use Rattle.book.specs.declared.stage.Stage.{Stage}
 use Rattle.book.specs.declared.stage.Stage.TheVariants.{Open, Drafted, Issued}
-use Rattle.book.specs.Journey.{reached, LawfulCall, Lawful, Reaches, Keeps}
-use Rattle.book.specs.Model.{State, is_open, is_drafted, is_issued, held, dues_on, credits_on, new_book}
-use Rattle.book.specs.Steps.{Call, connect, appoint, nominate, allocate, set_cost, begin, issue, withdraw, pay, payout, Answer, accepted, began, refused, refuse, step, Meaning, connection_at, appointed, nominated, inputs_of, obstacle, begun, drafted, on_draft, with_connection, with_allocation, with_cost, issuing, withdrawing, paying, paying_out}
+use Rattle.book.specs.Journey.{reached, LawfulCall, Lawful, Keeps}
+use Rattle.book.specs.Model.{State, is_open, is_issued, dues_on, credits_on}
+use Rattle.book.specs.Steps.{Call, connect, appoint, nominate, allocate, set_cost, begin, issue, withdraw, pay, payout, Answer, refused, step, Meaning, connection_at, appointed, nominated, inputs_of, obstacle, begun, drafted}
 use Rattle.book.proofs.Fits.{clear_way}
 use Rattle.book.proofs.Keeps.{held_none}
-use Rattle.statement.specs.Balanced.{Noted, Settles, Balanced, AlwaysBalanced}
-use Rattle.statement.specs.Formulas.{run_of, inputs_by, paid_by}
-use Rattle.statement.specs.Journal.{Event, Journal, Run, journal}
-use Rattle.statement.proofs.Kept.{ev, DrawnUp, Kept, refused_kept, connect_kept, appoint_kept, nominate_kept, allocate_kept, cost_kept, begin_kept, issue_kept, withdraw_kept, pay_kept, payout_kept, new_kept}
+use Rattle.statement.specs.Balanced.{Settles, Balanced, AlwaysBalanced}
+use Rattle.statement.specs.Journal.{Journal, Run, journal}
+use Rattle.statement.proofs.Kept.{ev, Kept, refused_kept, connect_kept, appoint_kept, nominate_kept, allocate_kept, cost_kept, begin_kept, issue_kept, withdraw_kept, pay_kept, payout_kept, new_kept}
 
 module _ (n m : ℕ) (j : Journal) (s : State) (x : Kept n m j s) where
   abbrev After : Call → Answer × State → Type 0

@@ -1,6 +1,6 @@
 -- What holds of a book after any list of calls.
-use Rattle.std.specs.Prelude.{◌≡◌, ℕ, ◌+◌, ◌-◌, ◌<◌, true, false, List, map, Some, sum, slice_index}
-use Rattle.billing.specs.Run.{charges_in, shares_in, dues_in, credits_in, held_in, notes_in}
+use Rattle.std.specs.Prelude.{◌≡◌, ℕ, ◌+◌, ◌<◌, true, false, List, map, Some, sum, slice_index}
+use Rattle.billing.specs.Run.{charges_in, shares_in, dues_in, credits_in, held_in}
 use Rattle.book.specs.Journey.{Reaches}
 use Rattle.book.specs.Model.{State, is_open, is_issued, held, dues_on, credits_on}
 use Rattle.book.specs.Steps.{Call}

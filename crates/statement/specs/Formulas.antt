@@ -1,5 +1,5 @@
 -- The standing and the amounts of a run, by accepted calls alone.
-use Rattle.std.specs.Prelude.{ℕ, ◌+◌, List, map, Option}
+use Rattle.std.specs.Prelude.{ℕ, ◌+◌, map, Option}
 use Rattle.std.specs.List.{range_with_len}
 use Rattle.std.specs.Option.{unwrap_or, option_map}
 use Rattle.allocations.specs.Parts.{Parts}
@@ -7,7 +7,7 @@ use Rattle.billing.specs.Run.{Inputs}
 use Rattle.book.specs.declared.stage.Stage.{Stage}
 use Rattle.book.specs.declared.stage.Stage.TheVariants.{Open}
 use Rattle.book.specs.Model.{own_bill}
-use Rattle.statement.specs.Journal.{Journal, Run, Sets, last, for, total}
+use Rattle.statement.specs.Journal.{Journal, Run, last, for, total}
 
 -- A point's user, its nominator (the last by connect or appoint) and its nominee (the last by connect or nominate).
 abbrev pub user_of : ℕ → Journal → Option ℕ

@@ -1,4 +1,4 @@
-use Rattle.std.proofs.Common.{arith, rules}
+use Rattle.std.proofs.Common.{rules}
 use Rattle.book.specs.View.{view}
 use Rattle.statement.proofs.Order.{order_no_matter}
 use Rattle.statement.proofs.Theorem.{always_balanced}
