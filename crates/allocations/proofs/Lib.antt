@@ -4,3 +4,4 @@ pub mod Wholes
 pub mod Sums
 pub mod Falls
 pub mod Fills
+pub mod Risings

@@ -45,6 +45,7 @@ pub fn are_whole(parts: &[Part]) -> bool
         && thousandths(parts) == WHOLE
 }
 
+#[tactic(auto, using(crate::proofs::Risings::rising_more))]
 fn are_rising(parts: &[Part]) -> bool
     requires { 1 ≤ length parts.now }
     ensures { result ≡ rising (listed parts.now) }

@@ -14,6 +14,7 @@ use sharing::Rule;
 const MOST_INTERVALS: u32 = 1_488;
 
 /// Whether both feeds have so many points, and the month is not too long.
+#[tactic(auto, unfolding(crate::specs::Run::feeds_fit))]
 pub fn feeds_fit<M: Feed, F: Feed>(points: usize, month: &M, reference: &F) -> bool
     ensures { result ≡ feeds_fit points (M.Feed.table month.now) (F.Feed.table reference.now) }
 {
