@@ -38,7 +38,7 @@ pub fn run<M: Feed, F: Feed, R: Rule>(
 {
     standing.check(notes.len())?;
     if !feeds_fit(standing.nominees.len(), month, reference) {
-        return Err(Fault::of_book(BookCause::UnfitFeed));
+        return Err(BookCause::UnfitFeed.into());
     }
     draft(standing, rates, month, reference, rule, notes)
 }

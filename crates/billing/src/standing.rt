@@ -40,16 +40,16 @@ impl Standing<'_> {
         ensures { result ≡ checked parties self.now.nominees.now self.now.nominators.now (map parts_of self.now.allocations.now) self.now.cost (provider_of self.now.provider) }
     {
         if !self.is_counted(parties) {
-            return Err(Fault::of_book(BookCause::OutOfRange));
+            return Err(BookCause::OutOfRange.into());
         }
         if !are_all_payable(self.allocations, parties) {
-            return Err(Fault::of_book(BookCause::OutOfRange));
+            return Err(BookCause::OutOfRange.into());
         }
         if !are_all_whole(self.allocations) {
-            return Err(Fault::of_book(BookCause::BrokenParts));
+            return Err(BookCause::BrokenParts.into());
         }
         if self.cost > MOST_COST {
-            return Err(Fault::of_book(BookCause::WrongAmount));
+            return Err(BookCause::WrongAmount.into());
         }
         Ok(())
     }

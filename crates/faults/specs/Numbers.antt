@@ -1,5 +1,6 @@
 -- The number of each cause, the name of each layer, and where a fault stands.
-use Rattle.std.specs.Prelude.{ℕ, List, codes}
+use Rattle.std.specs.Prelude.{ℕ, List, ◌++◌, codes}
+use Rattle.std.specs.Fmt.{decimal}
 use Rattle.faults.specs.declared.BytesCause.{BytesCause}
 use Rattle.faults.specs.declared.BytesCause.TheVariants as bytes
 use Rattle.faults.specs.declared.MeterCause.{MeterCause}
@@ -55,3 +56,7 @@ notice_fault cause place = record { layer = Notice cause; at = place }
 -- A fault of the book has no record behind it, and stands at 0.
 abbrev pub book_fault : BookCause → Fault
 book_fault cause = record { layer = Book cause; at = 0 }
+
+-- A fault as it is printed, as `bytes 20 at 3`.
+abbrev pub text_of : Fault → List ℕ
+text_of fault = name_of fault.layer ++ codes " " ++ decimal (number_of fault.layer) ++ codes " at " ++ decimal fault.at

@@ -5,8 +5,12 @@
 
 #![tactic(auto)]
 
-ghost use Rattle.std.specs.Prelude.{◌≡◌};
-ghost use Rattle.faults.specs.Numbers.{number_of, name_of, bytes_fault, meter_fault, notice_fault, book_fault};
+ghost use Rattle.std.specs.Prelude.{◌≡◌, Some};
+ghost use Rattle.faults.specs.Numbers.{number_of, name_of, text_of, book_fault};
+ghost use Rattle.faults.specs.declared.Layer.TheVariants.{Bytes, Meter, Notice, Book};
+
+use std::error::Error;
+use std::fmt;
 
 /// What is wrong with a record before its kind is looked at, or with its length.
 #[derive(Clone, Copy, PartialEq, Eq, Debug)]
@@ -137,37 +141,55 @@ impl Layer {
     }
 }
 
+impl From<BytesCause> for Layer {
+    ghost from_gives = { λ cause layer. layer ≡ Bytes cause };
+
+    fn from(cause: BytesCause) -> Layer {
+        Layer::Bytes(cause)
+    }
+}
+
+impl From<MeterCause> for Layer {
+    ghost from_gives = { λ cause layer. layer ≡ Meter cause };
+
+    fn from(cause: MeterCause) -> Layer {
+        Layer::Meter(cause)
+    }
+}
+
+impl From<NoticeCause> for Layer {
+    ghost from_gives = { λ cause layer. layer ≡ Notice cause };
+
+    fn from(cause: NoticeCause) -> Layer {
+        Layer::Notice(cause)
+    }
+}
+
+impl From<BookCause> for Layer {
+    ghost from_gives = { λ cause layer. layer ≡ Book cause };
+
+    fn from(cause: BookCause) -> Layer {
+        Layer::Book(cause)
+    }
+}
+
+/// A fault of the layer book has no record behind it, and stands at 0.
+impl From<BookCause> for Fault {
+    ghost from_gives = { λ cause fault. fault ≡ book_fault cause };
+
+    fn from(cause: BookCause) -> Fault {
+        Fault::new(cause, 0)
+    }
+}
+
 impl Fault {
-    /// A fault of the layer bytes, in the record that starts at the byte `at`.
-    pub fn of_bytes(cause: BytesCause, at: usize) -> Fault
-        ensures { result ≡ bytes_fault cause at }
+    /// A fault of the cause's layer, at a byte of a file or at a position in a list.
+    pub fn new<C: Into<Layer>>(cause: C, at: usize) -> Fault
+        ensures layer { C.converts cause result.layer }
+        ensures place { result.at ≡ at }
     {
-        let layer = Layer::Bytes(cause);
+        let layer = cause.into();
         Fault { layer, at }
-    }
-
-    /// A fault of the layer meter, at a byte of a file or at a position in a list.
-    pub fn of_meter(cause: MeterCause, at: usize) -> Fault
-        ensures { result ≡ meter_fault cause at }
-    {
-        let layer = Layer::Meter(cause);
-        Fault { layer, at }
-    }
-
-    /// A fault of the layer notice, in the record that starts at the byte `at`.
-    pub fn of_notice(cause: NoticeCause, at: usize) -> Fault
-        ensures { result ≡ notice_fault cause at }
-    {
-        let layer = Layer::Notice(cause);
-        Fault { layer, at }
-    }
-
-    /// A fault of the layer book, which has no record behind it.
-    pub fn of_book(cause: BookCause) -> Fault
-        ensures { result ≡ book_fault cause }
-    {
-        let layer = Layer::Book(cause);
-        Fault { layer, at: 0 }
     }
 
     /// The number by which the fault is known.
@@ -177,3 +199,25 @@ impl Fault {
         self.layer.number()
     }
 }
+
+impl fmt::Display for Layer {
+    ghost output = { λ layer. Some (name_of layer) };
+
+    fn fmt<W: fmt::Write>(&self, f: &mut fmt::Formatter<W>) -> fmt::Result {
+        f.write_str(self.name())
+    }
+}
+
+/// The layer, the number and the place, as `bytes 20 at 3`.
+impl fmt::Display for Fault {
+    ghost output = { λ fault. Some (text_of fault) };
+
+    fn fmt<W: fmt::Write>(&self, f: &mut fmt::Formatter<W>) -> fmt::Result {
+        let layer = self.layer;
+        let number = self.number();
+        let at = self.at;
+        write!(f, "{layer} {number} at {at}")
+    }
+}
+
+impl Error for Fault {}

@@ -24,14 +24,14 @@ pub fn open_record<'a>(bytes: &'a [u8], at: usize) -> Result<(Record<'a>, &'a [u
     ensures every_record_opens { OpensBack bytes.now result }
 {
     let [a, b, c, d, rest @ ..] = bytes else {
-        return Err(Fault::of_bytes(BytesCause::TooFewBytes, at));
+        return Err(Fault::new(BytesCause::TooFewBytes, at));
     };
     let length = u16::from_le_bytes([*a, *b]) as usize;
     if length < HEADER {
-        return Err(Fault::of_bytes(BytesCause::WrongLength, at));
+        return Err(Fault::new(BytesCause::WrongLength, at));
     }
     if rest.len() < length - HEADER {
-        return Err(Fault::of_bytes(BytesCause::TooFewBytes, at));
+        return Err(Fault::new(BytesCause::TooFewBytes, at));
     }
     let (body, rest) = rest.split_at(length - HEADER);
     let kind = u16::from_le_bytes([*c, *d]);

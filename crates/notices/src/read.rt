@@ -37,8 +37,8 @@ fn notice_of<'a>(held: Record<'a>) -> Result<Notice<'a>, Fault>
             provider: *provider,
             cents: u32::from_le_bytes([*a, *b, *c, *d]),
         }),
-        (CONNECT..=COST, _) => Err(Fault::of_bytes(BytesCause::WrongLength, 0)),
-        _ => Err(Fault::of_notice(NoticeCause::UnexpectedKind, 0)),
+        (CONNECT..=COST, _) => Err(Fault::new(BytesCause::WrongLength, 0)),
+        _ => Err(Fault::new(NoticeCause::UnexpectedKind, 0)),
     }
 }
 

@@ -17,7 +17,7 @@ fn put_notice(kind: u16, body: &[u8], out: &mut [u8]) -> Result<usize, Fault>
     requires { length body.now ≤ 13 }
     ensures { PutsNotice kind body.now out.old out.new result }
 {
-    write_record(kind, body, out).ok_or(Fault::of_notice(NoticeCause::BufferTooShort, 0))
+    write_record(kind, body, out).ok_or(Fault::new(NoticeCause::BufferTooShort, 0))
 }
 
 /// Writes an allocation, and refuses a stretch that is not of 0 to 4 parts before a short buffer.
@@ -25,7 +25,7 @@ fn put_allocation(party: u8, parts: &[u8], out: &mut [u8]) -> Result<usize, Faul
     ensures { Writes (allocate party parts.now) out.old out.new result }
 {
     if parts.len() % PART != 0 || parts.len() > MOST_PARTS * PART {
-        return Err(Fault::of_bytes(BytesCause::WrongLength, 0));
+        return Err(Fault::new(BytesCause::WrongLength, 0));
     }
     let length = 1 + parts.len();
     let mut body = [0; LONGEST_BODY];

@@ -90,11 +90,11 @@ pub fn total_in_domain(amount: u64, weights: &[u64], places: usize) -> Result<u6
     ensures { result ≡ (if accepts amount weights.now places then Ok (sum weights.now) else Err outside_domain) }
 {
     if places != weights.len() || amount > MOST_AMOUNT || places < 1 || places > MOST_PLACES {
-        return Err(Fault::of_book(BookCause::OutsideDomain));
+        return Err(BookCause::OutsideDomain.into());
     }
     match total_within(weights) {
         Some(total) if total >= 1 => Ok(total),
-        _ => Err(Fault::of_book(BookCause::OutsideDomain)),
+        _ => Err(BookCause::OutsideDomain.into()),
     }
 }
 

@@ -10,6 +10,8 @@
 pub mod laws;
 pub mod limits;
 pub mod range;
+pub mod size;
 
 pub use limits::{MOST_INTERVALS, MOST_POINTS, ROW_LIMIT};
 pub use range::{is_inside, is_within, out_of_range};
+pub use size::Size;

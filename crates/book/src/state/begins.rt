@@ -74,16 +74,16 @@ impl Book {
         ensures { result ≡ obstacle (view self.now) (M.Feed.table month.now) (F.Feed.table reference.now) }
     {
         if !self.is_open() {
-            return Some(Fault::of_book(BookCause::WrongState));
+            return Some(BookCause::WrongState.into());
         }
         if self.run >= MOST_RUNS {
-            return Some(Fault::of_book(BookCause::RunsUsedUp));
+            return Some(BookCause::RunsUsedUp.into());
         }
         if !feeds_fit(self.points as usize, month, reference) {
-            return Some(Fault::of_book(BookCause::UnfitFeed));
+            return Some(BookCause::UnfitFeed.into());
         }
         if !are_all_connected(self.connections.as_slice()) {
-            return Some(Fault::of_book(BookCause::NoUser));
+            return Some(BookCause::NoUser.into());
         }
         None
     }

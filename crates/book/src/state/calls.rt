@@ -72,14 +72,14 @@ impl Book {
         ensures { Stepped self.old self.new (pay payer cents) (told result) }
     {
         if !self.is_issued() {
-            return Err(Fault::of_book(BookCause::WrongState));
+            return Err(BookCause::WrongState.into());
         }
         if !self.has_party(payer) {
-            return Err(Fault::of_book(BookCause::OutOfRange));
+            return Err(BookCause::OutOfRange.into());
         }
         let owing = self.owing[payer as usize - 1];
         if !is_within(owing, cents) {
-            return Err(Fault::of_book(BookCause::WrongAmount));
+            return Err(BookCause::WrongAmount.into());
         }
         self.owing[payer as usize - 1] = owing - cents;
         self.purse += cents;
@@ -91,17 +91,17 @@ impl Book {
         ensures { Stepped self.old self.new (payout payee cents) (told result) }
     {
         if !self.is_issued() {
-            return Err(Fault::of_book(BookCause::WrongState));
+            return Err(BookCause::WrongState.into());
         }
         if !self.has_party(payee) {
-            return Err(Fault::of_book(BookCause::OutOfRange));
+            return Err(BookCause::OutOfRange.into());
         }
         let owed = self.owed[payee as usize - 1];
         if !is_within(owed, cents) {
-            return Err(Fault::of_book(BookCause::WrongAmount));
+            return Err(BookCause::WrongAmount.into());
         }
         if cents > self.purse {
-            return Err(Fault::of_book(BookCause::PurseTooSmall));
+            return Err(BookCause::PurseTooSmall.into());
         }
         self.owed[payee as usize - 1] = owed - cents;
         self.purse -= cents;

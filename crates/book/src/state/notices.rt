@@ -17,13 +17,13 @@ impl Book {
         ensures { Stepped self.old self.new (connect point user) (told result) }
     {
         if !self.is_open() {
-            return Err(Fault::of_book(BookCause::WrongState));
+            return Err(BookCause::WrongState.into());
         }
         if !self.has_point(point) {
-            return Err(Fault::of_book(BookCause::OutOfRange));
+            return Err(BookCause::OutOfRange.into());
         }
         if !self.has_party(user) {
-            return Err(Fault::of_book(BookCause::OutOfRange));
+            return Err(BookCause::OutOfRange.into());
         }
         self.connections[point as usize - 1] = Some(Connection {
             user,
@@ -38,16 +38,16 @@ impl Book {
         ensures { Stepped self.old self.new (appoint sender point nominator) (told result) }
     {
         if !self.is_open() {
-            return Err(Fault::of_book(BookCause::WrongState));
+            return Err(BookCause::WrongState.into());
         }
         if !self.has_all(sender, point, nominator) {
-            return Err(Fault::of_book(BookCause::OutOfRange));
+            return Err(BookCause::OutOfRange.into());
         }
         let Some(connection) = self.connections[point as usize - 1] else {
-            return Err(Fault::of_book(BookCause::NoUser));
+            return Err(BookCause::NoUser.into());
         };
         if sender != connection.user {
-            return Err(Fault::of_book(BookCause::NotEntitled));
+            return Err(BookCause::NotEntitled.into());
         }
         self.connections[point as usize - 1] = Some(Connection {
             user: connection.user,
@@ -62,16 +62,16 @@ impl Book {
         ensures { Stepped self.old self.new (nominate sender point nominee) (told result) }
     {
         if !self.is_open() {
-            return Err(Fault::of_book(BookCause::WrongState));
+            return Err(BookCause::WrongState.into());
         }
         if !self.has_all(sender, point, nominee) {
-            return Err(Fault::of_book(BookCause::OutOfRange));
+            return Err(BookCause::OutOfRange.into());
         }
         let Some(connection) = self.connections[point as usize - 1] else {
-            return Err(Fault::of_book(BookCause::NoUser));
+            return Err(BookCause::NoUser.into());
         };
         if sender != connection.nominator {
-            return Err(Fault::of_book(BookCause::NotEntitled));
+            return Err(BookCause::NotEntitled.into());
         }
         self.connections[point as usize - 1] = Some(Connection {
             user: connection.user,
@@ -86,13 +86,13 @@ impl Book {
         ensures { Stepped self.old self.new (allocate party (listed parts.now)) (told result) }
     {
         if !self.is_open() {
-            return Err(Fault::of_book(BookCause::WrongState));
+            return Err(BookCause::WrongState.into());
         }
         if !self.has_party(party) {
-            return Err(Fault::of_book(BookCause::OutOfRange));
+            return Err(BookCause::OutOfRange.into());
         }
         if !payers_within(parts, self.parties as usize) {
-            return Err(Fault::of_book(BookCause::OutOfRange));
+            return Err(BookCause::OutOfRange.into());
         }
         let allocation = Allocation::new(parts)?;
         self.allocations[party as usize - 1] = allocation;
@@ -104,13 +104,13 @@ impl Book {
         ensures { Stepped self.old self.new (set_cost provider cents) (told result) }
     {
         if !self.is_open() {
-            return Err(Fault::of_book(BookCause::WrongState));
+            return Err(BookCause::WrongState.into());
         }
         if !self.has_party(provider) {
-            return Err(Fault::of_book(BookCause::OutOfRange));
+            return Err(BookCause::OutOfRange.into());
         }
         if cents > MOST_COST {
-            return Err(Fault::of_book(BookCause::WrongAmount));
+            return Err(BookCause::WrongAmount.into());
         }
         self.provider = Some(provider);
         self.cost = cents;

@@ -77,10 +77,10 @@ impl Book {
         ensures { Opened parties points result }
     {
         if !is_within(MOST, u64::from(parties)) {
-            return Err(Unmade::Refused(Fault::of_book(BookCause::OutOfRange)));
+            return Err(Unmade::Refused(BookCause::OutOfRange.into()));
         }
         if !is_within(MOST, u64::from(points)) {
-            return Err(Unmade::Refused(Fault::of_book(BookCause::OutOfRange)));
+            return Err(Unmade::Refused(BookCause::OutOfRange.into()));
         }
         let connections = no_connections(heap, points)?;
         let allocations = own_bills(heap, parties)?;

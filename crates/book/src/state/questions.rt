@@ -39,10 +39,10 @@ impl Book {
         ensures { result ≡ asked (view self.now) party }
     {
         if self.is_open() {
-            return Err(Fault::of_book(BookCause::WrongState));
+            return Err(BookCause::WrongState.into());
         }
         if !self.has_party(party) {
-            return Err(Fault::of_book(BookCause::OutOfRange));
+            return Err(BookCause::OutOfRange.into());
         }
         let place = party as usize - 1;
         let note = self.notes[place];

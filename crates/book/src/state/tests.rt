@@ -63,9 +63,9 @@ impl Book {
         ensures value { result ≡ (if is_drafted self.now.stage then (if nat_eq run self.now.run then None else Some (book_fault BookCause.OtherRun)) else Some (book_fault BookCause.WrongState)) }
     {
         if !self.is_drafted() {
-            Some(Fault::of_book(BookCause::WrongState))
+            Some(BookCause::WrongState.into())
         } else if run != self.run {
-            Some(Fault::of_book(BookCause::OtherRun))
+            Some(BookCause::OtherRun.into())
         } else {
             None
         }
