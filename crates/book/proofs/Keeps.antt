@@ -1,30 +1,22 @@
 -- Each change of a book keeps what holds of every book.
 use Rattle.std.proofs.Common.{◌≡◌, ℕ, zero, suc, ◌+◌, ◌-◌, ◌<◌, ◌≤◌, Bool, true, false, cond, ◌&&◌, eqb, leb, List, [], ◌∷◌, ◌++◌, map, length, get_or, set, replicate, Some, None, sum, Option, sym, refl, ap, ◌∙◌, subst, ⊎_elim, arith}
 use Rattle.std.proofs.lemmas.List.FromFn.{length-map-range_with_len, get_or-map-range_with_len, map-range_with_len_more}
-use Rattle.std.proofs.lemmas.List.{length-map, length-set, length-replicate, get_or-set_same, get_or-set_other}
+use Rattle.std.proofs.lemmas.List.{map_push, length-map, length-set, length-replicate, get_or-set_same, get_or-set_other}
 use Rattle.std.proofs.lemmas.List.Sums.{sum_by-set, get_or-le-sum_by, sum_by-cons}
 use Rattle.std.proofs.lemmas.Bool.{both_ways, and_parts, and_from, leb-true, le-leb, cases_eq, eq-eqb, ne_eqb, cond-true, cond-false}
 use Rattle.faults.specs.declared.Fault.{Fault}
 use Rattle.tables.specs.Table.{within}
 use Rattle.allocations.specs.Parts.{Parts, payable, whole_parts}
+use Rattle.allocations.specs.Falls.{parts_of}
+use Rattle.allocations.specs.declared.allocation.Allocation.{Allocation}
 use Rattle.billing.specs.declared.notes.Note.{Note}
 use Rattle.billing.specs.Standing.{provided}
 use Rattle.book.specs.declared.connection.Connection.{Connection}
 use Rattle.book.specs.declared.stage.Stage.{Stage}
 use Rattle.book.specs.declared.stage.Stage.TheVariants.{Open, Drafted, Issued}
-use Rattle.book.specs.declared.state.Book.{Book}
-use Rattle.book.specs.Journey.{Came}
-use Rattle.book.specs.Model.{State, Accounts, Draft, is_open, is_drafted, is_issued, held, dues_on, credits_on, blank, own_bill, own_bills}
+use Rattle.book.specs.Model.{State, Accounts, Draft, is_open, is_drafted, is_issued, held, dues_on, credits_on, blank, own_bill, own_bills, new_book}
 use Rattle.book.specs.Sound.{Sound, Counted, Long, Bounded, Paid, Drawn, Even, Calm}
-use Rattle.book.specs.Steps.{accepted, step, appoint, nominate, appointed, nominated, connection_at, with_connection, with_allocation, with_cost, with_accounts, issuing, withdrawing}
-use Rattle.book.specs.View.{view}
-
-pub sound_of : (b : Book) → Sound (view b)
-sound_of b = record { counted = b.counted; long = b.long; bounded = b.bounded; paid = b.paid; drawn = b.drawn; even = b.even; calm = b.calm }
-
--- as the ghost fields are asked for
-pub ghosts : (s : State) → Sound s → Came s → record { counted : Counted s; long : Long s; bounded : Bounded s; paid : Paid s; drawn : Drawn s; even : Even s; calm : Calm s; came : Came s }
-ghosts s h e = record { counted = h.counted; long = h.long; bounded = h.bounded; paid = h.paid; drawn = h.drawn; even = h.even; calm = h.calm; came = e }
+use Rattle.book.specs.Steps.{accepted, step, appoint, nominate, appointed, nominated, connection_at, with_connection, with_allocation, with_cost, with_accounts, paying, paying_out, issuing, withdrawing}
 
 pub bounds : (n k : ℕ) → within n k ≡ true → (1 ≤ k) × (k ≤ n)
 bounds n k e = let p = and_parts (leb 1 k) (leb k n) e in (leb-true 1 k p.0, leb-true k n p.1)
@@ -102,17 +94,16 @@ cost_sound s h provider cents low high most = record {
 abbrev pub moved : State → Stage → ℕ → Draft → Accounts → State
 moved s stage run draft accounts = record { stage = stage; parties = s.parties; points = s.points; standing = s.standing; run = run; draft = draft; accounts = accounts }
 
-pub issuing_sound : (s : State) → Sound s → is_drafted s.stage ≡ true → (owing owed : List ℕ) → owing ≡ dues_on s.draft.notes → owed ≡ credits_on s.draft.notes
-    → Sound (moved s Issued s.run s.draft (record { owing = owing; owed = owed; purse = s.accounts.purse }))
-issuing_sound s h d owing owed eo ew =
+pub issuing_sound : (s : State) → Sound s → is_drafted s.stage ≡ true → Sound (issuing s)
+issuing_sound s h d =
     let none = h.calm (drafted_not_issued s.stage d) in
     record {
       counted = h.counted;
-      long = (h.long.0, h.long.1, h.long.2, ap length eo ∙ length-map s.draft.notes (λ n. n.due) ∙ h.long.2, ap length ew ∙ length-map s.draft.notes (λ n. n.credit) ∙ h.long.2);
+      long = (h.long.0, h.long.1, h.long.2, length-map s.draft.notes (λ n. n.due) ∙ h.long.2, length-map s.draft.notes (λ n. n.credit) ∙ h.long.2);
       bounded = h.bounded;
       paid = h.paid;
       drawn = h.drawn;
-      even = (omega (arith, ap sum eo, ap sum ew, h.drawn.0, none.2), omega (arith, ap sum eo, h.drawn.1, none.2));
+      even = (omega (arith, h.drawn.0, none.2), omega (arith, h.drawn.1, none.2));
       calm = λ e. absurd (both_ways true e refl);
     }
 
@@ -127,10 +118,9 @@ blank_drawn n notes e = (
   ap (λ ns. sum (credits_on ns)) e ∙ sum_none (λ x. x.credit) refl n,
 )
 
-pub withdrawing_sound : (s : State) → Sound s → is_drafted s.stage ≡ true → (notes : List Note) → notes ≡ replicate s.parties blank
-    → Sound (moved s Open s.run (record { notes = notes; excess = 0 }) s.accounts)
-withdrawing_sound s h d notes e =
-    let none = blank_drawn s.parties notes e in
+pub withdrawing_sound : (s : State) → Sound s → is_drafted s.stage ≡ true → Sound (withdrawing s)
+withdrawing_sound s h d =
+    let none = blank_drawn s.parties (replicate s.parties blank) refl in
     let before = drafted_not_issued s.stage d in
     record {
       counted = h.counted;
@@ -155,22 +145,22 @@ accounts_sound s h i a lo lw even most = record {
   calm = λ f. absurd (both_ways (is_issued s.stage) f i);
 }
 
-pub paying_sound : (s : State) → Sound s → (payer cents v : ℕ) → v ≡ get_or s.accounts.owing (payer - 1) 0 → is_issued s.stage ≡ true → within s.parties payer ≡ true → within v cents ≡ true
-    → Sound (with_accounts s (record { owing = set s.accounts.owing (payer - 1) (v - cents); owed = s.accounts.owed; purse = s.accounts.purse + cents }))
-paying_sound s h payer cents v e i r m =
+pub paying_sound : (s : State) → Sound s → (payer cents : ℕ) → is_issued s.stage ≡ true → within s.parties payer ≡ true → within (get_or s.accounts.owing (payer - 1) 0) cents ≡ true → Sound (paying s payer cents)
+paying_sound s h payer cents i r m =
+    let v = get_or s.accounts.owing (payer - 1) 0 in
     let a = bounds s.parties payer r in
     let b = bounds v cents m in
     let l : payer - 1 < length s.accounts.owing = omega (arith, h.long.3, a.0, a.1) in
-    let down = lower s.accounts.owing (payer - 1) cents v l e b.1 in
+    let down = lower s.accounts.owing (payer - 1) cents v l refl b.1 in
     accounts_sound s h i _ (length-set s.accounts.owing (payer - 1) (v - cents) ∙ h.long.3) h.long.4 (omega (arith, down, h.even.0)) (omega (arith, down, h.even.1))
 
-pub paying_out_sound : (s : State) → Sound s → (payee cents v : ℕ) → v ≡ get_or s.accounts.owed (payee - 1) 0 → is_issued s.stage ≡ true → within s.parties payee ≡ true → within v cents ≡ true → cents ≤ s.accounts.purse
-    → Sound (with_accounts s (record { owing = s.accounts.owing; owed = set s.accounts.owed (payee - 1) (v - cents); purse = s.accounts.purse - cents }))
-paying_out_sound s h payee cents v e i r m p =
+pub paying_out_sound : (s : State) → Sound s → (payee cents : ℕ) → is_issued s.stage ≡ true → within s.parties payee ≡ true → within (get_or s.accounts.owed (payee - 1) 0) cents ≡ true → cents ≤ s.accounts.purse → Sound (paying_out s payee cents)
+paying_out_sound s h payee cents i r m p =
+    let v = get_or s.accounts.owed (payee - 1) 0 in
     let a = bounds s.parties payee r in
     let b = bounds v cents m in
     let l : payee - 1 < length s.accounts.owed = omega (arith, h.long.4, a.0, a.1) in
-    let down = lower s.accounts.owed (payee - 1) cents v l e b.1 in
+    let down = lower s.accounts.owed (payee - 1) cents v l refl b.1 in
     accounts_sound s h i _ h.long.3 (length-set s.accounts.owed (payee - 1) (v - cents) ∙ h.long.4) (omega (arith, down, h.even.0)) (omega (arith, h.even.1))
 
 sum_zeros : (n : ℕ) → sum (replicate n 0) ≡ 0
@@ -213,20 +203,16 @@ own_bill_at n q lt = get_or-map-range_with_len (λ i. own_bill (i + 1)) 0 n q q 
 pub own_bills_more : (n : ℕ) → own_bills (n + 1) ≡ own_bills n ++ own_bill (n + 1) ∷ []
 own_bills_more n = map-range_with_len_more (λ i. own_bill (i + 1)) 0 n n (omega arith)
 
--- a new book
-abbrev pub opening : ℕ → ℕ → List (Option Connection) → List Parts → List Note → List ℕ → List ℕ → State
-opening parties points connections allocations notes owing owed = record {
-  stage = Open;
-  parties = parties;
-  points = points;
-  standing = record { connections = connections; allocations = allocations; cost = 0; provider = 0 };
-  run = 0;
-  draft = record { notes = notes; excess = 0 };
-  accounts = record { owing = owing; owed = owed; purse = 0 };
-}
+-- one more party pays its own bill
+pub own_bills_next : (bills : List Allocation) (a : Allocation) (party : ℕ) → 1 ≤ party → map parts_of bills ≡ own_bills (party - 1) → parts_of a ≡ own_bill party → map parts_of (bills ++ a ∷ []) ≡ own_bills party
+own_bills_next bills a party low before own =
+    let same : party - 1 + 1 ≡ party = omega arith in
+    map_push parts_of bills a ∙ ap (λ (xs : List Parts). xs ++ parts_of a ∷ []) before ∙ ap (λ (p : Parts). own_bills (party - 1) ++ p ∷ []) own
+    ∙ ap (λ n. own_bills (party - 1) ++ own_bill n ∷ []) (sym same) ∙ sym (own_bills_more (party - 1)) ∙ ap own_bills same
 
-pub opening_sound : (parties points : ℕ) → within 32 parties ≡ true → within 32 points ≡ true → Sound (opening parties points (replicate points None) (own_bills parties) (replicate parties blank) (replicate parties 0) (replicate parties 0))
-opening_sound parties points i j =
+-- a new book
+pub new_book_sound : (parties points : ℕ) → within 32 parties ≡ true → within 32 points ≡ true → Sound (new_book parties points)
+new_book_sound parties points i j =
     let p = bounds 32 parties i in
     let q = bounds 32 points j in
     let drawn = blank_drawn parties (replicate parties blank) refl in
@@ -251,10 +237,3 @@ pub nominate_is : (s : State) (sender point nominee : ℕ) (c : Connection) → 
     → step s (nominate sender point nominee) ≡ (accepted, with_connection s point (record { user = c.user; nominator = c.nominator; nominee = nominee }))
 nominate_is s sender point nominee c o r at same =
     cond-true _ _ _ o ∙ cond-true _ _ _ r ∙ ap (nominated s sender point nominee) at ∙ cond-true _ _ _ (eq-eqb sender c.nominator same)
-
-pub issued_same : (s : State) (owing owed : List ℕ) → owing ≡ dues_on s.draft.notes → owed ≡ credits_on s.draft.notes
-    → moved s Issued s.run s.draft (record { owing = owing; owed = owed; purse = s.accounts.purse }) ≡ issuing s
-issued_same s owing owed eo ew = λ k. moved s Issued s.run s.draft (record { owing = eo k; owed = ew k; purse = s.accounts.purse })
-
-pub withdrawn_same : (s : State) (notes : List Note) → notes ≡ replicate s.parties blank → moved s Open s.run (record { notes = notes; excess = 0 }) s.accounts ≡ withdrawing s
-withdrawn_same s notes e = λ k. moved s Open s.run (record { notes = e k; excess = 0 }) s.accounts

@@ -2,3 +2,8 @@ pub mod Keeps
 pub mod Onward
 pub mod Connected
 pub mod Fits
+pub mod Allotments
+pub mod Drafts
+pub mod Lines
+pub mod Opening
+pub mod Payments

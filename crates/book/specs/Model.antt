@@ -7,6 +7,7 @@ use Rattle.allocations.specs.declared.allocation.Allocation.{Allocation}
 use Rattle.billing.specs.declared.notes.Note.{Note}
 use Rattle.billing.specs.Standing.{provider_of}
 use Rattle.book.specs.declared.connection.Connection.{Connection}
+use Rattle.book.specs.declared.line.Line.{Line}
 use Rattle.book.specs.declared.stage.Stage.{Stage}
 use Rattle.book.specs.declared.stage.Stage.TheVariants.{Open, Drafted, Issued}
 
@@ -53,6 +54,11 @@ is_issued Open = false
 is_issued Drafted = false
 is_issued Issued = true
 
+abbrev pub is_at : Stage → Stage → Bool
+is_at Open = is_open
+is_at Drafted = is_drafted
+is_at Issued = is_issued
+
 -- What is held: what the issued run leaves, and nothing before.
 abbrev pub held : State → ℕ
 held s = cond (is_issued s.stage) s.draft.excess 0
@@ -89,14 +95,24 @@ new_book parties points = record {
   accounts = record { owing = replicate parties 0; owed = replicate parties 0; purse = 0 };
 }
 
+-- The notes on the lines of the parties, and what is outstanding of them.
+abbrev pub notes_on : List Line → List Note
+notes_on lines = map (λ line. line.note) lines
+
+abbrev pub owing_on : List Line → List ℕ
+owing_on lines = map (λ line. line.owing) lines
+
+abbrev pub owed_on : List Line → List ℕ
+owed_on lines = map (λ line. line.owed) lines
+
 -- The state that the fields of a book of the program stand for.
-abbrev pub state_of : Stage → ℕ → ℕ → List (Option Connection) → List Allocation → ℕ → Option ℕ → ℕ → List Note → ℕ → List ℕ → List ℕ → ℕ → State
-state_of stage parties points connections allocations cost provider run notes excess owing owed purse = record {
+abbrev pub state_of : Stage → ℕ → ℕ → List (Option Connection) → List Allocation → ℕ → Option ℕ → ℕ → List Line → ℕ → ℕ → State
+state_of stage parties points connections allocations cost provider run lines excess purse = record {
   stage = stage;
   parties = parties;
   points = points;
   standing = record { connections = connections; allocations = map parts_of allocations; cost = cost; provider = provider_of provider };
   run = run;
-  draft = record { notes = notes; excess = excess };
-  accounts = record { owing = owing; owed = owed; purse = purse };
+  draft = record { notes = notes_on lines; excess = excess };
+  accounts = record { owing = owing_on lines; owed = owed_on lines; purse = purse };
 }

@@ -15,7 +15,7 @@ use Rattle.book.specs.Steps.{Call, Answer, accepted, began, refused, step}
 use Rattle.book.specs.Journey.{LawfulCall, Reaches}
 
 abbrev pub view : Book → State
-view b = state_of b.stage b.parties b.points (vec_items b.connections) (vec_items b.allocations) b.cost b.provider b.run (vec_items b.notes) b.excess (vec_items b.owing) (vec_items b.owed) b.purse
+view b = state_of b.stage b.parties b.points (vec_items b.connections) (vec_items b.allocations) b.cost b.provider b.run (vec_items b.lines) b.excess b.purse
 
 -- What a call of the program answered.
 abbrev pub told : Result Unit Fault → Answer

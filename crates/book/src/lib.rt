@@ -14,6 +14,7 @@
 mod account;
 mod claim;
 mod connection;
+mod line;
 mod stage;
 mod state;
 

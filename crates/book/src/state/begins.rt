@@ -1,14 +1,17 @@
 // Beginning a run.
-ghost use Rattle.std.specs.Prelude.{◌≡◌, map, length};
+ghost use Rattle.std.specs.Prelude.{◌≡◌, ◌≤◌, map, length};
+ghost use Rattle.std.specs.Result.{result_err};
 ghost use Rattle.billing.specs.Run.{Settled};
+ghost use Rattle.book.specs.Model.{notes_on, owing_on, owed_on};
 ghost use Rattle.book.specs.Steps.{all_connected, nominee_number, nominator_number, inputs_of, obstacle, begin};
 ghost use Rattle.book.specs.View.{view, told_run, Stepped};
 
 use crate::claim::Claim;
 use crate::connection::Connection;
+use crate::line::{BLANK_NOTE, Line};
 use crate::stage::Stage;
 use crate::state::Book;
-use crate::state::opens::BLANK;
+use arrayvec::ArrayVec;
 use balancing::Rates;
 use billing::{Note, Standing, feeds_fit, run};
 use faults::{BookCause, Fault};
@@ -24,92 +27,73 @@ const MOST_PARTIES: usize = 32;
 fn are_all_connected(connections: &[Option<Connection>]) -> bool
     ensures { result ≡ all_connected connections.now }
 {
+    connections.iter().all(|connection| connection.is_some())
+}
+
+// The nominee and the nominator of each point, 0 where it has no user.
+fn answerable(
+    connections: &[Option<Connection>],
+) -> (ArrayVec<u8, MOST_POINTS>, ArrayVec<u8, MOST_POINTS>)
+    requires { length connections.now ≤ 32 }
+    ensures nominees { result.0.items ≡ map nominee_number connections.now }
+    ensures nominators { result.1.items ≡ map nominator_number connections.now }
+{
+    let mut nominees = ArrayVec::new();
+    let mut nominators = ArrayVec::new();
     for connection in connections {
-        if connection.is_none() {
-            return false;
-        }
+        nominees.push(connection.map_or(0, |parties| parties.nominee));
+        nominators.push(connection.map_or(0, |parties| parties.nominator));
     }
-    true
+    (nominees, nominators)
 }
 
-fn nominee_number(connection: Option<Connection>) -> u8
-    ensures { result ≡ nominee_number connection }
+// Writes the notes to the lines. They are counted, since what is written through a zip is not known after it.
+fn write_notes(lines: &mut [Line], notes: &[Note])
+    requires { length notes.now ≡ length lines.old }
+    ensures notes { notes_on lines.new ≡ notes.now }
+    ensures owing { owing_on lines.new ≡ owing_on lines.old }
+    ensures owed { owed_on lines.new ≡ owed_on lines.old }
 {
-    match connection {
-        Some(connection) => connection.nominee,
-        None => 0,
-    }
-}
-
-fn nominator_number(connection: Option<Connection>) -> u8
-    ensures { result ≡ nominator_number connection }
-{
-    match connection {
-        Some(connection) => connection.nominator,
-        None => 0,
-    }
-}
-
-fn write_nominees(connections: &[Option<Connection>], nominees: &mut [u8])
-    requires { length nominees.old ≡ length connections.now }
-    ensures { nominees.new ≡ map nominee_number connections.now }
-{
-    for (i, connection) in connections.iter().enumerate() {
-        nominees[i] = nominee_number(*connection);
-    }
-}
-
-fn write_nominators(connections: &[Option<Connection>], nominators: &mut [u8])
-    requires { length nominators.old ≡ length connections.now }
-    ensures { nominators.new ≡ map nominator_number connections.now }
-{
-    for (i, connection) in connections.iter().enumerate() {
-        nominators[i] = nominator_number(*connection);
+    for (i, line) in lines.iter_mut().enumerate() {
+        line.note = notes[i];
     }
 }
 
 impl Book {
-    // What keeps a run from being begun, before any amount is worked out.
-    fn obstacle<M: Feed, F: Feed>(&self, month: &M, reference: &F) -> Option<Fault>
-        ensures { result ≡ obstacle (view self.now) (M.Feed.table month.now) (F.Feed.table reference.now) }
+    // Refuses where a run can't be begun, before any amount is worked out.
+    fn expect_clear<M: Feed, F: Feed>(&self, month: &M, reference: &F) -> Result<(), Fault>
+        ensures { result_err result ≡ obstacle (view self.now) (M.Feed.table month.now) (F.Feed.table reference.now) }
     {
-        if !self.is_open() {
-            return Some(BookCause::WrongState.into());
-        }
+        self.expect_stage(Stage::Open)?;
         if self.run >= MOST_RUNS {
-            return Some(BookCause::RunsUsedUp.into());
+            return Err(BookCause::RunsUsedUp.into());
         }
-        if !feeds_fit(self.points as usize, month, reference) {
-            return Some(BookCause::UnfitFeed.into());
+        if !feeds_fit(usize::from(self.points), month, reference) {
+            return Err(BookCause::UnfitFeed.into());
         }
-        if !are_all_connected(self.connections.as_slice()) {
-            return Some(BookCause::NoUser.into());
+        if !are_all_connected(&self.connections) {
+            return Err(BookCause::NoUser.into());
         }
-        None
+        Ok(())
     }
 
-    // Works out the notes and what is to be held; the other lists are scratch.
+    // Works out the notes, and what is to be held.
     fn work_out<M: Feed, F: Feed, R: Rule>(
         &self,
         rates: &Rates,
         month: &M,
         reference: &F,
         rule: &R,
-        nominees: &mut [u8],
-        nominators: &mut [u8],
         notes: &mut [Note],
     ) -> Result<u64, Fault>
-        requires nominees { length nominees.old ≡ self.now.points }
-        requires nominators { length nominators.old ≡ self.now.points }
-        requires notes { length notes.old ≡ self.now.parties }
+        requires { length notes.old ≡ self.now.parties }
         ensures { Settled (inputs_of (view self.now) rates.now (M.Feed.table month.now) (F.Feed.table reference.now) (R.Rule.meaning rule.now)) result notes.old notes.new }
     {
-        write_nominees(self.connections.as_slice(), nominees);
-        write_nominators(self.connections.as_slice(), nominators);
+        let (nominees, nominators) = answerable(&self.connections);
         let standing = Standing {
-            nominees,
-            nominators,
-            allocations: self.allocations.as_slice(),
+            nominees: &nominees,
+            nominators: &nominators,
+            allocations: &self.allocations,
             cost: self.cost,
             provider: self.provider,
         };
@@ -126,24 +110,11 @@ impl Book {
     ) -> Result<Claim, Fault>
         ensures { Stepped self.old self.new (begin rates.now (M.Feed.table month.now) (F.Feed.table reference.now) (R.Rule.meaning rule.now)) (told_run result) }
     {
-        if let Some(fault) = self.obstacle(month, reference) {
-            return Err(fault);
-        }
-        let mut nominees = [0; MOST_POINTS];
-        let mut nominators = [0; MOST_POINTS];
-        let mut notes = [BLANK; MOST_PARTIES];
-        let points = self.points as usize;
-        let notes = &mut notes[0..self.parties as usize];
-        let excess = self.work_out(
-            rates,
-            month,
-            reference,
-            rule,
-            &mut nominees[0..points],
-            &mut nominators[0..points],
-            notes,
-        )?;
-        self.notes.as_mut_slice().copy_from_slice(notes);
+        self.expect_clear(month, reference)?;
+        let mut notes = [BLANK_NOTE; MOST_PARTIES];
+        let notes = &mut notes[..usize::from(self.parties)];
+        let excess = self.work_out(rates, month, reference, rule, notes)?;
+        write_notes(self.lines.as_mut_slice(), notes);
         self.excess = excess;
         self.run += 1;
         self.stage = Stage::Drafted;

@@ -1,35 +1,36 @@
 // The calls on a draft, and the money.
-ghost use Rattle.std.specs.Prelude.{◌≡◌, ◌≤◌, map, length, replicate, vec_len};
-ghost use Rattle.book.specs.Model.{blank, dues_on, credits_on};
+ghost use Rattle.std.specs.Prelude.{◌≡◌, length, replicate};
+ghost use Rattle.book.specs.Model.{blank, dues_on, credits_on, notes_on, owing_on, owed_on};
 ghost use Rattle.book.specs.Steps.{issue, withdraw, pay, payout};
 ghost use Rattle.book.specs.View.{told, told_back, HandedBack, Stepped};
 
 use crate::claim::{Claim, Unspent};
+use crate::line::{BLANK_NOTE, Line};
 use crate::stage::Stage;
 use crate::state::Book;
-use crate::state::opens::BLANK;
-use crate::state::tests::is_within;
-use billing::Note;
+use crate::state::checks::left_of;
 use faults::{BookCause, Fault};
 
-// Writes what is on the notes: the dues to `owing`, the credits to `owed`.
-fn take_over(notes: &[Note], owing: &mut [u64], owed: &mut [u64])
-    requires owing { length owing.old ≡ length notes.now }
-    requires owed { length owed.old ≡ length notes.now }
-    ensures owing { owing.new ≡ dues_on notes.now }
-    ensures owed { owed.new ≡ credits_on notes.now }
+// What is on the notes becomes outstanding.
+fn make_owed(lines: &mut [Line])
+    ensures notes { notes_on lines.new ≡ notes_on lines.old }
+    ensures owing { owing_on lines.new ≡ dues_on (notes_on lines.old) }
+    ensures owed { owed_on lines.new ≡ credits_on (notes_on lines.old) }
 {
-    for (i, note) in notes.iter().enumerate() {
-        owing[i] = note.due;
-        owed[i] = note.credit;
+    for line in lines.iter_mut() {
+        line.owing = line.note.due;
+        line.owed = line.note.credit;
     }
 }
 
-fn wipe(notes: &mut [Note])
-    ensures { notes.new ≡ replicate (length notes.old) blank }
+// Drops the notes.
+fn wipe(lines: &mut [Line])
+    ensures notes { notes_on lines.new ≡ replicate (length lines.old) blank }
+    ensures owing { owing_on lines.new ≡ owing_on lines.old }
+    ensures owed { owed_on lines.new ≡ owed_on lines.old }
 {
-    for note in notes.iter_mut() {
-        *note = BLANK;
+    for line in lines.iter_mut() {
+        line.note = BLANK_NOTE;
     }
 }
 
@@ -39,15 +40,11 @@ impl Book {
         ensures steps { Stepped self.old self.new (issue claim.run) (told_back result) }
         ensures refused_claim_is_handed_back { HandedBack claim result }
     {
-        if let Some(fault) = self.refuses(claim.run) {
+        if let Err(fault) = self.expect_draft(claim.run) {
             return Err(Unspent { claim, fault });
         }
         let Claim { run: _ } = claim;
-        take_over(
-            self.notes.as_slice(),
-            self.owing.as_mut_slice(),
-            self.owed.as_mut_slice(),
-        );
+        make_owed(self.lines.as_mut_slice());
         self.stage = Stage::Issued;
         Ok(())
     }
@@ -57,11 +54,11 @@ impl Book {
         ensures steps { Stepped self.old self.new (withdraw claim.run) (told_back result) }
         ensures refused_claim_is_handed_back { HandedBack claim result }
     {
-        if let Some(fault) = self.refuses(claim.run) {
+        if let Err(fault) = self.expect_draft(claim.run) {
             return Err(Unspent { claim, fault });
         }
         let Claim { run: _ } = claim;
-        wipe(self.notes.as_mut_slice());
+        wipe(self.lines.as_mut_slice());
         self.excess = 0;
         self.stage = Stage::Open;
         Ok(())
@@ -71,17 +68,9 @@ impl Book {
     pub fn pay(&mut self, payer: u8, cents: u64) -> Result<(), Fault>
         ensures { Stepped self.old self.new (pay payer cents) (told result) }
     {
-        if !self.is_issued() {
-            return Err(BookCause::WrongState.into());
-        }
-        if !self.has_party(payer) {
-            return Err(BookCause::OutOfRange.into());
-        }
-        let owing = self.owing[payer as usize - 1];
-        if !is_within(owing, cents) {
-            return Err(BookCause::WrongAmount.into());
-        }
-        self.owing[payer as usize - 1] = owing - cents;
+        self.expect_stage(Stage::Issued)?;
+        let place = self.party_place(payer)?;
+        self.lines[place].owing = left_of(self.lines[place].owing, cents)?;
         self.purse += cents;
         Ok(())
     }
@@ -90,20 +79,13 @@ impl Book {
     pub fn payout(&mut self, payee: u8, cents: u64) -> Result<(), Fault>
         ensures { Stepped self.old self.new (payout payee cents) (told result) }
     {
-        if !self.is_issued() {
-            return Err(BookCause::WrongState.into());
-        }
-        if !self.has_party(payee) {
-            return Err(BookCause::OutOfRange.into());
-        }
-        let owed = self.owed[payee as usize - 1];
-        if !is_within(owed, cents) {
-            return Err(BookCause::WrongAmount.into());
-        }
+        self.expect_stage(Stage::Issued)?;
+        let place = self.party_place(payee)?;
+        let left = left_of(self.lines[place].owed, cents)?;
         if cents > self.purse {
             return Err(BookCause::PurseTooSmall.into());
         }
-        self.owed[payee as usize - 1] = owed - cents;
+        self.lines[place].owed = left;
         self.purse -= cents;
         Ok(())
     }

@@ -4,6 +4,7 @@ ghost use Rattle.book.specs.Steps.{connect, appoint, nominate, allocate, set_cos
 ghost use Rattle.book.specs.View.{told, Stepped};
 
 use crate::connection::Connection;
+use crate::stage::Stage;
 use crate::state::Book;
 use allocations::{Allocation, Part, payers_within};
 use faults::{BookCause, Fault};
@@ -16,16 +17,10 @@ impl Book {
     pub fn connect(&mut self, point: u8, user: u8) -> Result<(), Fault>
         ensures { Stepped self.old self.new (connect point user) (told result) }
     {
-        if !self.is_open() {
-            return Err(BookCause::WrongState.into());
-        }
-        if !self.has_point(point) {
-            return Err(BookCause::OutOfRange.into());
-        }
-        if !self.has_party(user) {
-            return Err(BookCause::OutOfRange.into());
-        }
-        self.connections[point as usize - 1] = Some(Connection {
+        self.expect_stage(Stage::Open)?;
+        let place = self.point_place(point)?;
+        self.party_place(user)?;
+        self.connections[place] = Some(Connection {
             user,
             nominator: user,
             nominee: user,
@@ -37,22 +32,17 @@ impl Book {
     pub fn appoint(&mut self, sender: u8, point: u8, nominator: u8) -> Result<(), Fault>
         ensures { Stepped self.old self.new (appoint sender point nominator) (told result) }
     {
-        if !self.is_open() {
-            return Err(BookCause::WrongState.into());
-        }
-        if !self.has_all(sender, point, nominator) {
-            return Err(BookCause::OutOfRange.into());
-        }
-        let Some(connection) = self.connections[point as usize - 1] else {
-            return Err(BookCause::NoUser.into());
-        };
+        self.expect_stage(Stage::Open)?;
+        self.party_place(sender)?;
+        let place = self.point_place(point)?;
+        self.party_place(nominator)?;
+        let connection = self.connections[place].ok_or(BookCause::NoUser)?;
         if sender != connection.user {
             return Err(BookCause::NotEntitled.into());
         }
-        self.connections[point as usize - 1] = Some(Connection {
-            user: connection.user,
+        self.connections[place] = Some(Connection {
             nominator,
-            nominee: connection.nominee,
+            ..connection
         });
         Ok(())
     }
@@ -61,22 +51,17 @@ impl Book {
     pub fn nominate(&mut self, sender: u8, point: u8, nominee: u8) -> Result<(), Fault>
         ensures { Stepped self.old self.new (nominate sender point nominee) (told result) }
     {
-        if !self.is_open() {
-            return Err(BookCause::WrongState.into());
-        }
-        if !self.has_all(sender, point, nominee) {
-            return Err(BookCause::OutOfRange.into());
-        }
-        let Some(connection) = self.connections[point as usize - 1] else {
-            return Err(BookCause::NoUser.into());
-        };
+        self.expect_stage(Stage::Open)?;
+        self.party_place(sender)?;
+        let place = self.point_place(point)?;
+        self.party_place(nominee)?;
+        let connection = self.connections[place].ok_or(BookCause::NoUser)?;
         if sender != connection.nominator {
             return Err(BookCause::NotEntitled.into());
         }
-        self.connections[point as usize - 1] = Some(Connection {
-            user: connection.user,
-            nominator: connection.nominator,
+        self.connections[place] = Some(Connection {
             nominee,
+            ..connection
         });
         Ok(())
     }
@@ -85,17 +70,12 @@ impl Book {
     pub fn allocate(&mut self, party: u8, parts: &[Part]) -> Result<(), Fault>
         ensures { Stepped self.old self.new (allocate party (listed parts.now)) (told result) }
     {
-        if !self.is_open() {
-            return Err(BookCause::WrongState.into());
-        }
-        if !self.has_party(party) {
+        self.expect_stage(Stage::Open)?;
+        let place = self.party_place(party)?;
+        if !payers_within(parts, usize::from(self.parties)) {
             return Err(BookCause::OutOfRange.into());
         }
-        if !payers_within(parts, self.parties as usize) {
-            return Err(BookCause::OutOfRange.into());
-        }
-        let allocation = Allocation::new(parts)?;
-        self.allocations[party as usize - 1] = allocation;
+        self.allocations[place] = Allocation::new(parts)?;
         Ok(())
     }
 
@@ -103,12 +83,8 @@ impl Book {
     pub fn cost(&mut self, provider: u8, cents: u64) -> Result<(), Fault>
         ensures { Stepped self.old self.new (set_cost provider cents) (told result) }
     {
-        if !self.is_open() {
-            return Err(BookCause::WrongState.into());
-        }
-        if !self.has_party(provider) {
-            return Err(BookCause::OutOfRange.into());
-        }
+        self.expect_stage(Stage::Open)?;
+        self.party_place(provider)?;
         if cents > MOST_COST {
             return Err(BookCause::WrongAmount.into());
         }

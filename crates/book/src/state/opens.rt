@@ -1,17 +1,18 @@
 // Making a book.
-ghost use Rattle.std.specs.Prelude.{◌≡◌, ◌+◌, ◌≤◌, map, replicate, None, MatchResult};
+ghost use Rattle.std.specs.Prelude.{◌≡◌, map, if◌then◌else◌, Ok, Err, IfOk};
+ghost use Rattle.faults.specs.Numbers.{book_fault};
+ghost use Rattle.tables.specs.Table.{within};
 ghost use Rattle.allocations.specs.Falls.{parts_of};
-ghost use Rattle.book.specs.Model.{blank, own_bills};
+ghost use Rattle.book.specs.Model.{own_bills};
 ghost use Rattle.book.specs.View.{Opened};
+ghost use Rattle.book.specs.declared.state.opens.Unmade.TheVariants.{Refused, NoMemory};
 
-use crate::connection::Connection;
+use crate::line::Line;
 use crate::stage::Stage;
 use crate::state::Book;
-use crate::state::tests::is_within;
 use allocations::Allocation;
-use billing::Note;
 use faults::{BookCause, Fault};
-use std::alloc::Global;
+use std::alloc::{AllocError, AllocFailed, Global};
 
 /// Why no book was made.
 #[derive(Clone, Copy, PartialEq, Eq, Debug)]
@@ -22,53 +23,43 @@ pub enum Unmade {
     NoMemory,
 }
 
-const MOST: u64 = 32;
+impl From<Fault> for Unmade {
+    ghost from_gives = { λ fault unmade. unmade ≡ Refused fault };
 
-pub(crate) const BLANK: Note = Note {
-    share: 0,
-    charge: 0,
-    due: 0,
-    credit: 0,
-};
+    fn from(fault: Fault) -> Unmade {
+        Unmade::Refused(fault)
+    }
+}
+
+impl From<AllocError> for Unmade {
+    ghost from_gives = { λ _ unmade. unmade ≡ NoMemory };
+
+    fn from(_want: AllocError) -> Unmade {
+        Unmade::NoMemory
+    }
+}
+
+// The most parties, and the most points.
+const MOST: u8 = 32;
+
+fn expect_count(count: u8) -> Result<(), Fault>
+    ensures { result ≡ (if within 32 count then Ok tt else Err (book_fault BookCause.OutOfRange)) }
+{
+    if !(1..=MOST).contains(&count) {
+        return Err(BookCause::OutOfRange.into());
+    }
+    Ok(())
+}
 
 // Each party pays its own bill.
-fn own_bills(heap: Global, parties: u8) -> Result<Vec<Allocation>, Unmade>
-    ensures { MatchResult result (λ v. map parts_of v.items ≡ own_bills parties) (λ e. e ≡ Unmade.NoMemory) }
+fn own_bills(heap: Global, parties: u8) -> Result<Vec<Allocation>, AllocError>
+    ensures { IfOk result (λ v. map parts_of v.items ≡ own_bills parties) }
 {
     let mut bills = Vec::new(heap);
-    for i in 0..parties {
-        if let Err(_) = bills.push(Allocation::own(i + 1)) {
-            return Err(Unmade::NoMemory);
-        }
+    for party in 1..=parties {
+        bills.push(Allocation::own(party))?;
     }
     Ok(bills)
-}
-
-fn no_connections(heap: Global, points: u8) -> Result<Vec<Option<Connection>>, Unmade>
-    ensures { MatchResult result (λ v. v.items ≡ replicate points None) (λ e. e ≡ Unmade.NoMemory) }
-{
-    match vec![in heap; None; points as usize] {
-        Ok(connections) => Ok(connections),
-        Err(_) => Err(Unmade::NoMemory),
-    }
-}
-
-fn blank_notes(heap: Global, parties: u8) -> Result<Vec<Note>, Unmade>
-    ensures { MatchResult result (λ v. v.items ≡ replicate parties blank) (λ e. e ≡ Unmade.NoMemory) }
-{
-    match vec![in heap; BLANK; parties as usize] {
-        Ok(notes) => Ok(notes),
-        Err(_) => Err(Unmade::NoMemory),
-    }
-}
-
-fn no_cents(heap: Global, parties: u8) -> Result<Vec<u64>, Unmade>
-    ensures { MatchResult result (λ v. v.items ≡ replicate parties 0) (λ e. e ≡ Unmade.NoMemory) }
-{
-    match vec![in heap; 0u64; parties as usize] {
-        Ok(cents) => Ok(cents),
-        Err(_) => Err(Unmade::NoMemory),
-    }
 }
 
 impl Book {
@@ -76,17 +67,11 @@ impl Book {
     pub fn new(heap: Global, parties: u8, points: u8) -> Result<Book, Unmade>
         ensures { Opened parties points result }
     {
-        if !is_within(MOST, u64::from(parties)) {
-            return Err(Unmade::Refused(BookCause::OutOfRange.into()));
-        }
-        if !is_within(MOST, u64::from(points)) {
-            return Err(Unmade::Refused(BookCause::OutOfRange.into()));
-        }
-        let connections = no_connections(heap, points)?;
+        expect_count(parties)?;
+        expect_count(points)?;
+        let connections = vec![in heap; None; usize::from(points)]?;
         let allocations = own_bills(heap, parties)?;
-        let notes = blank_notes(heap, parties)?;
-        let owing = no_cents(heap, parties)?;
-        let owed = no_cents(heap, parties)?;
+        let lines = vec![in heap; Line::BLANK; usize::from(parties)]?;
         Ok(Book {
             stage: Stage::Open,
             parties,
@@ -96,10 +81,8 @@ impl Book {
             cost: 0,
             provider: None,
             run: 0,
-            notes,
+            lines,
             excess: 0,
-            owing,
-            owed,
             purse: 0,
         })
     }

@@ -1,5 +1,5 @@
 // What a book shows.
-ghost use Rattle.std.specs.Prelude.{◌≡◌, ◌^◌, ◌<◌, sum};
+ghost use Rattle.std.specs.Prelude.{◌≡◌, sum};
 ghost use Rattle.book.specs.Model.{held};
 ghost use Rattle.book.specs.View.{view, asked};
 
@@ -7,13 +7,6 @@ use crate::account::Account;
 use crate::stage::Stage;
 use crate::state::Book;
 use faults::{BookCause, Fault};
-
-fn total(cents: &[u64]) -> u64
-    requires { sum cents.now < 2 ^ 64 }
-    ensures { result ≡ sum cents.now }
-{
-    cents.iter().sum()
-}
 
 impl Book {
     pub fn parties(&self) -> u8
@@ -38,21 +31,17 @@ impl Book {
     pub fn account(&self, party: u8) -> Result<Account, Fault>
         ensures { result ≡ asked (view self.now) party }
     {
-        if self.is_open() {
+        if self.stage == Stage::Open {
             return Err(BookCause::WrongState.into());
         }
-        if !self.has_party(party) {
-            return Err(BookCause::OutOfRange.into());
-        }
-        let place = party as usize - 1;
-        let note = self.notes[place];
+        let line = self.lines[self.party_place(party)?];
         Ok(Account {
-            share: note.share,
-            charge: note.charge,
-            due: note.due,
-            credit: note.credit,
-            owing: self.owing[place],
-            owed: self.owed[place],
+            share: line.note.share,
+            charge: line.note.charge,
+            due: line.note.due,
+            credit: line.note.credit,
+            owing: line.owing,
+            owed: line.owed,
         })
     }
 
@@ -69,7 +58,7 @@ impl Book {
     {
         match self.stage {
             Stage::Issued => self.excess,
-            _ => 0,
+            Stage::Open | Stage::Drafted => 0,
         }
     }
 
@@ -77,13 +66,13 @@ impl Book {
     pub fn payers_owe(&self) -> u64
         ensures { result ≡ sum (view self.now).accounts.owing }
     {
-        total(self.owing.as_slice())
+        self.lines.iter().map(|line| line.owing).sum()
     }
 
     /// What all payees together are owed.
     pub fn payees_are_owed(&self) -> u64
         ensures { result ≡ sum (view self.now).accounts.owed }
     {
-        total(self.owed.as_slice())
+        self.lines.iter().map(|line| line.owed).sum()
     }
 }
