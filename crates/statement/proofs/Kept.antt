@@ -16,7 +16,7 @@ use Rattle.book.specs.Model.{State, is_open, is_drafted, is_issued, dues_on, cre
 use Rattle.book.specs.Journey.{Keeps}
 use Rattle.book.specs.Sound.{Sound}
 use Rattle.book.specs.Steps.{Call, connect, appoint, nominate, allocate, set_cost, begin, issue, withdraw, pay, payout, Answer, accepted, began, refused, connection_at, nominee_number, nominator_number, inputs_of, with_connection, with_allocation, with_cost, drafting, issuing, withdrawing, paying, paying_out, obstacle}
-use Rattle.book.proofs.Keeps.{bounds, drafted_not_issued, open_not_issued, connection_sound, allocation_sound, cost_sound, issuing_sound, withdrawing_sound, paying_sound, paying_out_sound, drafting_sound, opening_sound, lower}
+use Rattle.book.proofs.Keeps.{bounds, drafted_not_issued, open_not_issued, connection_sound, allocation_sound, cost_sound, issuing_sound, withdrawing_sound, paying_sound, paying_out_sound, drafting_sound, new_book_sound, lower}
 use Rattle.book.proofs.Fits.{clear_way, fits, excess_is, ok_is, drawn}
 use Rattle.statement.specs.Formulas.{user_of, nominator_of, nominee_of, allocation_of, cost_of, provider_number, run_of, stage_of, paid_by, paid_out_to, all_payments, all_payouts, inputs_by}
 use Rattle.statement.specs.Journal.{Event, Journal, Run, or_else, add}
@@ -265,7 +265,7 @@ module _ (n m : ℕ) (j : Journal) (s : State) (x : Kept n m j s) where
         let none = x.quiet (drafted_not_issued s.stage d) in
         let up = x.drawn (drafted_not_open s.stage d) in
         record {
-          sound = issuing_sound s x.sound d _ _ refl refl;
+          sound = issuing_sound s x.sound d;
           parties = x.parties;
           points = x.points;
           stage = refl;
@@ -285,7 +285,7 @@ module _ (n m : ℕ) (j : Journal) (s : State) (x : Kept n m j s) where
 
     pub withdraw_kept : (number : ℕ) → Kept n m (ev (withdraw number) accepted ∷ j) (withdrawing s)
     withdraw_kept number = record {
-      sound = withdrawing_sound s x.sound d _ refl;
+      sound = withdrawing_sound s x.sound d;
       parties = x.parties;
       points = x.points;
       stage = refl;
@@ -327,7 +327,7 @@ module _ (n m : ℕ) (j : Journal) (s : State) (x : Kept n m j s) where
         let v = bounds (get_or s.accounts.owing (payer - 1) 0) cents some in
         let l : payer - 1 < length s.accounts.owing = omega (arith, x.sound.long.3, w.0, w.1) in
         record {
-          sound = paying_sound s x.sound payer cents _ refl i r some;
+          sound = paying_sound s x.sound payer cents i r some;
           parties = x.parties;
           points = x.points;
           stage = x.stage;
@@ -352,7 +352,7 @@ module _ (n m : ℕ) (j : Journal) (s : State) (x : Kept n m j s) where
         let enough = leb-true cents s.accounts.purse covered in
         let l : payee - 1 < length s.accounts.owed = omega (arith, x.sound.long.4, w.0, w.1) in
         record {
-          sound = paying_out_sound s x.sound payee cents _ refl i r some enough;
+          sound = paying_out_sound s x.sound payee cents i r some enough;
           parties = x.parties;
           points = x.points;
           stage = x.stage;
@@ -376,7 +376,7 @@ no_connection m k = ⊎_elim (λ lt. get_or-replicate m k None None lt) (λ le. 
 
 pub new_kept : (n m : ℕ) → within 32 n ≡ true → within 32 m ≡ true → Kept n m [] (new_book n m)
 new_kept n m fn fm = record {
-  sound = opening_sound n m fn fm;
+  sound = new_book_sound n m fn fm;
   parties = refl;
   points = refl;
   stage = refl;
