@@ -23,9 +23,11 @@ pub mod choice;
 pub mod figures;
 pub mod rule;
 mod split;
+pub mod total;
 
 pub use by_heads::ByHeads;
 pub use by_weight::{ByWeight, by_weight_is_the_fair_way};
 pub use choice::Choice;
 pub use figures::figures_hold;
 pub use rule::Rule;
+pub use total::total_within;
