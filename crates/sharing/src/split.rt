@@ -1,5 +1,5 @@
 // An amount that is found to be one that can be shared out, and its shares by weight.
-ghost use Rattle.std.specs.Prelude.{◌≡◌, ◌<◌, ◌≤◌, map, length, if◌then◌else◌, Ok, Err, sum};
+ghost use Rattle.std.specs.Prelude.{◌≡◌, ◌*◌, ◌<◌, ◌≤◌, map, length, if◌then◌else◌, Ok, Err, sum};
 ghost use Rattle.std.specs.List.{range_with_len};
 ghost use Rattle.sharing.specs.Domain.{accepts, outside_domain};
 ghost use Rattle.sharing.specs.Weights.{whole, remainder, left_over, first, served_before, by_weight};
@@ -34,11 +34,11 @@ impl Split<'_> {
         ensures gives { result ≡ left_over self.now.amount self.now.weights.now }
         ensures places { shares.new ≡ map (whole self.now.amount self.now.weights.now) (range_with_len 0 (length self.now.weights.now)) }
     {
+        shares.copy_from_slice(self.weights);
         let mut left = self.amount;
-        for i in 0..self.weights.len() {
-            let share = self.whole_at(i);
-            shares[i] = share;
-            left -= share;
+        for share in shares.iter_mut() {
+            *share = self.product(*share) / self.total;
+            left -= *share;
         }
         left
     }
@@ -61,28 +61,22 @@ impl Split<'_> {
         requires { i < length self.now.weights.now }
         ensures { result ≡ served_before (remainder self.now.amount self.now.weights.now) (length self.now.weights.now) i }
     {
-        let own = self.remainder_at(i);
+        let own = self.product(self.weights[i]) % self.total;
         let mut before = 0;
-        for j in 0..self.weights.len() {
-            if goes_first(self.remainder_at(j), j, own, i) {
+        for (j, &weight) in self.weights.iter().enumerate() {
+            if goes_first(self.product(weight) % self.total, j, own, i) {
                 before += 1;
             }
         }
         before
     }
 
-    fn whole_at(&self, i: usize) -> u64
-        requires { i < length self.now.weights.now }
-        ensures { result ≡ whole self.now.amount self.now.weights.now i }
+    // The amount times one of the weights.
+    fn product(&self, weight: u64) -> u64
+        requires { weight ≤ self.now.total }
+        ensures { result ≡ self.now.amount * weight }
     {
-        self.amount * self.weights[i] / self.total
-    }
-
-    fn remainder_at(&self, i: usize) -> u64
-        requires { i < length self.now.weights.now }
-        ensures { result ≡ remainder self.now.amount self.now.weights.now i }
-    {
-        self.amount * self.weights[i] % self.total
+        self.amount * weight
     }
 }
 
@@ -93,9 +87,10 @@ pub(crate) fn total_in_domain(amount: u64, weights: &[u64], places: usize) -> Re
     if places != weights.len() || amount > MOST_AMOUNT || !(1..=MOST_PLACES).contains(&places) {
         return Err(BookCause::OutsideDomain.into());
     }
-    total_within(weights, MOST_TOTAL)
-        .filter(|&total| total >= 1)
-        .ok_or(BookCause::OutsideDomain.into())
+    match total_within(weights, MOST_TOTAL) {
+        Some(total) if total >= 1 => Ok(total),
+        _ => Err(BookCause::OutsideDomain.into()),
+    }
 }
 
 // Whether the place `j`, with the remainder `other`, is served before the place `i`, with the remainder `own`.
