@@ -13,7 +13,8 @@
 //! share 0. `ByWeight` gives amount × weight ÷ total rounded down, and the cents left one each to the
 //! largest remainders, equal ones to the earlier place. `ByHeads` counts each weight that is not 0
 //! as 1. `Choice` is the one or the other, chosen as the program runs. A rule of your own implements
-//! `Rule`: it states its meaning and shows the three laws of it.
+//! `Rule`: it states its meaning and shows the three laws of it. `total_within` adds up a list of amounts
+//! that must not pass a limit.
 
 #![tactic(auto)]
 

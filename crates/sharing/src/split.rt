@@ -93,9 +93,10 @@ pub(crate) fn total_in_domain(amount: u64, weights: &[u64], places: usize) -> Re
     }
 }
 
-// Whether the place `j`, with the remainder `other`, is served before the place `i`, with the remainder `own`.
+// Whether the place `j`, with the remainder `other`, is served before the place `i`, with the remainder `own`:
+// the larger remainder goes first, and of two equal ones the earlier place.
 fn goes_first(other: u64, j: usize, own: u64, i: usize) -> bool
     ensures { result ≡ first other j own i }
 {
-    other > own || (other == own && j < i)
+    (own, j) < (other, i)
 }
