@@ -1,6 +1,10 @@
 //! The parts of an allocation, and the tests of them.
 ghost use Rattle.std.specs.Prelude.{◌≡◌, ◌≤◌, length, sum};
 ghost use Rattle.allocations.specs.Parts.{listed, thousandths_of, one_of, payable, rising, each_some, whole_parts};
+ghost use Rattle.allocations.specs.Falls.{to_payer};
+ghost use Rattle.sharing.specs.Weights.{sum_of};
+
+use crate::allocation::own_amount;
 
 /// One part of a bill: who pays it, and how many thousandths of the bill it is.
 #[derive(Clone, Copy)]
@@ -79,4 +83,17 @@ fn thousandths(parts: &[Part]) -> u64
         together += u64::from(part.thousandths);
     }
     together
+}
+
+// The shares at the party's places together.
+pub(crate) fn sum_to(parts: &[Part], shares: &[u64], party: u8) -> u64
+    requires same { length shares.now ≡ length parts.now }
+    requires most { sum shares.now ≤ 2000000000 }
+    ensures { result ≡ sum_of (to_payer (listed parts.now) shares.now party) (length parts.now) }
+{
+    let mut due = 0;
+    for (part, &share) in parts.iter().zip(shares) {
+        due += own_amount(part.payer, party, share);
+    }
+    due
 }
