@@ -1,6 +1,10 @@
 //! The parts of an allocation, and the tests of them.
 ghost use Rattle.std.specs.Prelude.{◌≡◌, ◌≤◌, length, sum};
 ghost use Rattle.allocations.specs.Parts.{listed, thousandths_of, one_of, payable, rising, each_some, whole_parts};
+ghost use Rattle.allocations.specs.Falls.{to_payer};
+ghost use Rattle.sharing.specs.Weights.{sum_of};
+
+use crate::allocation::own_amount;
 
 /// One part of a bill: who pays it, and how many thousandths of the bill it is.
 #[derive(Clone, Copy)]
@@ -19,54 +23,33 @@ const WHOLE: u64 = 1_000;
 pub fn payers_within(parts: &[Part], parties: usize) -> bool
     ensures { result ≡ payable parties (listed parts.now) }
 {
-    for part in parts {
-        if !is_party(part.payer, parties) {
-            return false;
-        }
-    }
-    true
-}
-
-fn is_party(number: u8, parties: usize) -> bool
-    ensures { result ≡ one_of parties number }
-{
-    number >= 1 && number as usize <= parties
+    parts
+        .iter()
+        .all(|part| (1..=parties).contains(&usize::from(part.payer)))
 }
 
 /// Whether the parts make up a whole: 1 to 4 of them, payers strictly rising, each with at least one
 /// thousandth, together 1,000.
+#[tactic(auto, using(crate::proofs::Listed::listed_long), unfolding(crate::specs::Parts::whole_parts))]
 pub fn are_whole(parts: &[Part]) -> bool
     ensures { result ≡ whole_parts (listed parts.now) }
 {
-    parts.len() >= 1
-        && parts.len() <= MOST_PARTS
+    (1..=MOST_PARTS).contains(&parts.len())
         && are_rising(parts)
         && have_some(parts)
         && thousandths(parts) == WHOLE
 }
 
-#[tactic(auto, using(crate::proofs::Risings::rising_more))]
 fn are_rising(parts: &[Part]) -> bool
-    requires { 1 ≤ length parts.now }
     ensures { result ≡ rising (listed parts.now) }
 {
-    for i in 0..parts.len() - 1 {
-        if parts[i].payer >= parts[i + 1].payer {
-            return false;
-        }
-    }
-    true
+    parts.is_sorted_by(|part, next| part.payer < next.payer)
 }
 
 fn have_some(parts: &[Part]) -> bool
     ensures { result ≡ each_some (listed parts.now) }
 {
-    for part in parts {
-        if part.thousandths < 1 {
-            return false;
-        }
-    }
-    true
+    parts.iter().all(|part| part.thousandths >= 1)
 }
 
 // The thousandths together.
@@ -74,9 +57,18 @@ fn thousandths(parts: &[Part]) -> u64
     requires { length parts.now ≤ 4 }
     ensures { result ≡ sum (thousandths_of (listed parts.now)) }
 {
-    let mut together = 0;
-    for part in parts {
-        together += u64::from(part.thousandths);
+    parts.iter().map(|part| u64::from(part.thousandths)).sum()
+}
+
+// The shares at the party's places together.
+pub(crate) fn sum_to(parts: &[Part], shares: &[u64], party: u8) -> u64
+    requires same { length shares.now ≡ length parts.now }
+    requires most { sum shares.now ≤ 2000000000 }
+    ensures { result ≡ sum_of (to_payer (listed parts.now) shares.now party) (length parts.now) }
+{
+    let mut due = 0;
+    for (part, &share) in parts.iter().zip(shares) {
+        due += own_amount(part.payer, party, share);
     }
-    together
+    due
 }

@@ -1,5 +1,5 @@
 // Equal shares for all whose weight is not 0.
-ghost use Rattle.std.specs.Prelude.{◌≡◌, ◌≤◌, length, take};
+ghost use Rattle.std.specs.Prelude.{◌≡◌, length};
 ghost use Rattle.sharing.specs.Heads.{heads, by_heads};
 ghost use Rattle.sharing.specs.HeadsLemmas.{heads_each, heads_all, heads_none};
 
@@ -24,17 +24,19 @@ impl Rule for ByHeads {
     fn share(&self, amount: u64, weights: &[u64], shares: &mut [u64]) -> Result<(), Fault> {
         total_in_domain(amount, weights, shares.len())?;
         let mut heads = [0; MOST_PLACES];
-        write_heads(weights, &mut heads);
-        ByWeight.share(amount, &heads[0..weights.len()], shares)
+        let heads = &mut heads[..weights.len()];
+        write_heads(weights, heads);
+        ByWeight.share(amount, heads, shares)
     }
 }
 
 // Writes 1 for each weight that is not 0, and 0 for each that is.
 fn write_heads(weights: &[u64], out: &mut [u64])
-    requires { length weights.now ≤ length out.old }
-    ensures { take (length weights.now) out.new ≡ heads weights.now }
+    requires { length out.old ≡ length weights.now }
+    ensures { out.new ≡ heads weights.now }
 {
-    for (i, weight) in weights.iter().enumerate() {
-        out[i] = (*weight).min(1);
+    out.copy_from_slice(weights);
+    for head in out {
+        *head = (*head).min(1);
     }
 }

@@ -13,7 +13,8 @@
 //! share 0. `ByWeight` gives amount × weight ÷ total rounded down, and the cents left one each to the
 //! largest remainders, equal ones to the earlier place. `ByHeads` counts each weight that is not 0
 //! as 1. `Choice` is the one or the other, chosen as the program runs. A rule of your own implements
-//! `Rule`: it states its meaning and shows the three laws of it.
+//! `Rule`: it states its meaning and shows the three laws of it. `total_within` adds up a list of amounts
+//! that must not pass a limit.
 
 #![tactic(auto)]
 
@@ -23,9 +24,11 @@ pub mod choice;
 pub mod figures;
 pub mod rule;
 mod split;
+pub mod total;
 
 pub use by_heads::ByHeads;
 pub use by_weight::{ByWeight, by_weight_is_the_fair_way};
 pub use choice::Choice;
 pub use figures::figures_hold;
 pub use rule::Rule;
+pub use total::total_within;

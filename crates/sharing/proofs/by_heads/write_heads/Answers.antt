@@ -1,15 +1,10 @@
-use Rattle.std.proofs.Common.{◌≡◌, min, length, take, sym, ap, ◌∙◌, arith}
-use Rattle.std.proofs.lemmas.List.{take_more_set, map_more, take_all}
-use Rattle.sharing.specs.Heads.{heads}
+use Rattle.std.proofs.Common.{min, get_or, arith}
+use Rattle.std.proofs.lemmas.List.{get_or_default}
+use Rattle.std.proofs.lemmas.List.Edits.{map_over_more}
 use Rattle.sharing.proofs.by_heads.write_heads.Goals as goal
 
-pub loop-i-preserved : goal.loop-i-preserved
-loop-i-preserved c =
-    let written = take_more_set c.loop-i.out c.loop-i.i c.min.result (omega arith) in
-    let meant = map_more (λ w. min w 1) c.args.weights.now c.loop-i.i 0 c.loop-i-test.true in
-    cc (c.loop-i.invariant, c.min.ensures)
-
-pub returns : goal.returns
-returns c =
-    let at-end : c.loop-i.i ≡ length c.args.weights.now = omega arith in
-    ap (λ n. take n c.loop-i.out) (sym at-end) ∙ c.loop-i.invariant ∙ ap heads (take_all c.loop-i.i c.args.weights.now (omega arith))
+pub loop-head-preserved : goal.loop-head-preserved
+loop-head-preserved c =
+    let items = c.loop-head.head-items in
+    let i = c.loop-head.head-index in
+    rw c.min.ensures (map_over_more (λ w. min w 1) c.args.weights.now items i (get_or items i 0) (omega arith) c.loop-head.invariant (get_or_default items i 0 (get_or items i 0) (omega arith)))

@@ -17,11 +17,7 @@ returns-in_err-total c =
       shares_are_fair = λ h. absurd (both_ways _ q.2 h);
     }
 
-pub returns : goal.returns
-returns c =
+pub returns-clause-shares_are_fair : goal.returns-clause-shares_are_fair
+returns-clause-shares_are_fair c =
     let written : c.give_odd_cents.new.shares ≡ placed by_weight c.args.amount c.args.weights.now c.args.shares.now = search rules in
-    record {
-      refuses_only_outside_the_domain = search rules;
-      writes_its_meaning_or_nothing = written;
-      shares_are_fair = written_fair c.args.amount c.args.weights.now c.args.shares.now _ written;
-    }
+    written_fair c.args.amount c.args.weights.now c.args.shares.now _ written
