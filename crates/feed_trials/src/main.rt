@@ -55,9 +55,9 @@ fn shuffle(pairs: &mut [(u8, u8)], seed: u64) -> u64 {
 // How many readings of the two feeds differ.
 fn differences<F: Feed, G: Feed>(one: &F, other: &G) -> Result<u32, Fault> {
     let mut count: u32 = 0;
-    for k in 0..one.intervals() {
-        for p in 0..one.points() {
-            if one.read(p + 1, k + 1)? != other.read(p + 1, k + 1)? {
+    for interval in 1..=one.intervals() {
+        for point in 1..=one.points() {
+            if one.read(point, interval)? != other.read(point, interval)? {
                 count = count.wrapping_add(1);
             }
         }
@@ -105,18 +105,15 @@ fn two_layers() -> Result<[(u64, u64); 3], Fault> {
     Ok([high.read(1, 1)?, high.read(2, 1)?, high.read(3, 1)?])
 }
 
-// The number and the place of a refusal; 0 where the list is taken.
-fn refusal(points: u8, intervals: u32, readings: &[(u64, u64)]) -> (u8, usize) {
-    match RecordFeed::new(points, intervals, readings) {
-        Ok(_) => (0, 0),
-        Err(fault) => (fault.number(), fault.at),
-    }
+// Why the list is refused, if it is.
+fn refusal(points: u8, intervals: u32, readings: &[(u64, u64)]) -> Option<Fault> {
+    RecordFeed::new(points, intervals, readings).err()
 }
 
 fn all_swings<F: Feed>(feed: &F) -> Result<u64, Fault> {
     let mut all: u64 = 0;
-    for p in 0..feed.points() {
-        all = all.wrapping_add(swing(feed, p + 1)?);
+    for point in 1..=feed.points() {
+        all = all.wrapping_add(swing(feed, point)?);
     }
     Ok(all)
 }
@@ -178,7 +175,8 @@ fn main(rt: HostRuntime) -> io::Result<()> {
         refusal(2, 3, &[full, (0, 0), (0, 0), full, (0, 0), over]),
         refusal(2, 2, &[full, (0, 0), (1, 0), (0, u64::MAX)]),
     ];
-    for (number, at) in tried {
+    for refused in tried {
+        let (number, at) = refused.map_or((0, 0), |fault| (fault.number(), fault.at));
         println!(rt; "{number} at {at}")?;
     }
     let large = largest_table(rt.alloc())?;

@@ -13,8 +13,8 @@ pub fn swing<F: Feed>(feed: &F, point: u8) -> Result<u64, Fault>
     let (first, _) = feed.read(point, 1)?;
     let mut smallest = first;
     let mut largest = first;
-    for k in 1..feed.intervals() {
-        let (withdrawn, _) = feed.read(point, k + 1)?;
+    for interval in 2..=feed.intervals() {
+        let (withdrawn, _) = feed.read(point, interval)?;
         smallest = smallest.min(withdrawn);
         largest = largest.max(withdrawn);
     }

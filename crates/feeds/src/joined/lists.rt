@@ -15,8 +15,8 @@ impl<F: Feed> JoinFeed<F> {
         ensures shows_the_groups_in_any_order { (js : Joins) → IsPermutation pairs.now js → After F.Feed.table js result }
     {
         let mut feed = JoinFeed::new(below);
-        for (a, b) in pairs {
-            let _ = feed.join(*a, *b);
+        for &(a, b) in pairs {
+            let _ = feed.join(a, b);
         }
         feed
     }

@@ -8,5 +8,5 @@ pub returns : goal.returns
 returns g c =
     let s = c.args.feed.now in
     let t = g.F.Feed.table s.below in
-    let some = some_joins g.F.Feed.table g.F.Feed.sound s in
-    subst (SameTotals t) (sym some.1.shows) (totals_kept some.0 t (g.F.Feed.sound s.below))
+    let some = some_joins g.F.Feed.table g.met.F.Feed.sound s in
+    subst (SameTotals t) (sym some.1.shows) (totals_kept some.0 t (g.met.F.Feed.sound s.below))

@@ -17,7 +17,7 @@ returns-in_err-expect_clear g c =
     let u = g.F.Feed.table c.args.reference.now in
     let m = g.R.Rule.meaning c.args.rule.now in
     let law : LawfulCall (begin c.args.rates.now (g.M.Feed.table c.args.month.now) (g.F.Feed.table c.args.reference.now) (g.R.Rule.meaning c.args.rule.now)) =
-    (g.M.Feed.sound c.args.month.now, (g.F.Feed.sound c.args.reference.now, (g.met.R.Rule.each c.args.rule.now, (g.met.R.Rule.all c.args.rule.now, g.met.R.Rule.none c.args.rule.now)))) in
+    (g.met.M.Feed.sound c.args.month.now, (g.met.F.Feed.sound c.args.reference.now, (g.met.R.Rule.each c.args.rule.now, (g.met.R.Rule.all c.args.rule.now, g.met.R.Rule.none c.args.rule.now)))) in
     let p = err_from_is_err_and c.from_residual.result c.from_residual.ensures.1 in
     let stopped = begin_stopped (view b) rates t u m c.in_err-expect_clear.field-0.0 (sym c.expect_clear.ensures ∙ ap result_err c.in_err-expect_clear.was) in
     rw (p.1, p.2) (refusal b (begin rates t u m) c.in_err-expect_clear.field-0.0 law stopped)
@@ -30,7 +30,7 @@ returns-in_err-excess g c =
     let u = g.F.Feed.table c.args.reference.now in
     let m = g.R.Rule.meaning c.args.rule.now in
     let law : LawfulCall (begin c.args.rates.now (g.M.Feed.table c.args.month.now) (g.F.Feed.table c.args.reference.now) (g.R.Rule.meaning c.args.rule.now)) =
-    (g.M.Feed.sound c.args.month.now, (g.F.Feed.sound c.args.reference.now, (g.met.R.Rule.each c.args.rule.now, (g.met.R.Rule.all c.args.rule.now, g.met.R.Rule.none c.args.rule.now)))) in
+    (g.met.M.Feed.sound c.args.month.now, (g.met.F.Feed.sound c.args.reference.now, (g.met.R.Rule.each c.args.rule.now, (g.met.R.Rule.all c.args.rule.now, g.met.R.Rule.none c.args.rule.now)))) in
     let clear = sym c.expect_clear.ensures ∙ ap result_err c.in_ok-expect_clear.was in
     let p = err_from_is_err_and c.from_residual-in_err-excess.result c.from_residual-in_err-excess.ensures.1 in
     let ill = begun_ill (view b) b.sound rates t u m c.work_out.result c.in_err-excess.field-0.0 _ _ clear c.work_out.ensures c.in_err-excess.was in
@@ -44,7 +44,7 @@ invariant_of-self g c =
     let u = g.F.Feed.table c.args.reference.now in
     let m = g.R.Rule.meaning c.args.rule.now in
     let law : LawfulCall (begin c.args.rates.now (g.M.Feed.table c.args.month.now) (g.F.Feed.table c.args.reference.now) (g.R.Rule.meaning c.args.rule.now)) =
-    (g.M.Feed.sound c.args.month.now, (g.F.Feed.sound c.args.reference.now, (g.met.R.Rule.each c.args.rule.now, (g.met.R.Rule.all c.args.rule.now, g.met.R.Rule.none c.args.rule.now)))) in
+    (g.met.M.Feed.sound c.args.month.now, (g.met.F.Feed.sound c.args.reference.now, (g.met.R.Rule.each c.args.rule.now, (g.met.R.Rule.all c.args.rule.now, g.met.R.Rule.none c.args.rule.now)))) in
     let clear = sym c.expect_clear.ensures ∙ ap result_err c.in_ok-expect_clear.was in
     let was = c.as_mut_slice.ensures.value in
     let over = lines_over b c.write_notes.new.lines c.as_mut_slice.result.now was (as_many (λ line. line.owing) c.write_notes.new.lines c.as_mut_slice.result.now c.write_notes.ensures.owing) in
@@ -60,7 +60,7 @@ returns g c =
     let u = g.F.Feed.table c.args.reference.now in
     let m = g.R.Rule.meaning c.args.rule.now in
     let law : LawfulCall (begin c.args.rates.now (g.M.Feed.table c.args.month.now) (g.F.Feed.table c.args.reference.now) (g.R.Rule.meaning c.args.rule.now)) =
-    (g.M.Feed.sound c.args.month.now, (g.F.Feed.sound c.args.reference.now, (g.met.R.Rule.each c.args.rule.now, (g.met.R.Rule.all c.args.rule.now, g.met.R.Rule.none c.args.rule.now)))) in
+    (g.met.M.Feed.sound c.args.month.now, (g.met.F.Feed.sound c.args.reference.now, (g.met.R.Rule.each c.args.rule.now, (g.met.R.Rule.all c.args.rule.now, g.met.R.Rule.none c.args.rule.now)))) in
     let clear = sym c.expect_clear.ensures ∙ ap result_err c.in_ok-expect_clear.was in
     let was = c.as_mut_slice.ensures.value in
     let over = lines_over b c.write_notes.new.lines c.as_mut_slice.result.now was (as_many (λ line. line.owing) c.write_notes.new.lines c.as_mut_slice.result.now c.write_notes.ensures.owing) in
