@@ -1,3 +1,6 @@
+pub mod Places
+pub mod Provided
+pub mod Payers
 pub mod Own
 pub mod Weights
 pub mod Ways

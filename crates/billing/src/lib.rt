@@ -12,6 +12,8 @@
 
 mod credits;
 mod dues;
+mod imbalances;
+mod lists;
 mod month;
 pub mod notes;
 pub mod running;

@@ -18,8 +18,8 @@ const MOST_INTERVALS: u32 = 1_488;
 pub fn feeds_fit<M: Feed, F: Feed>(points: usize, month: &M, reference: &F) -> bool
     ensures { result ≡ feeds_fit points (M.Feed.table month.now) (F.Feed.table reference.now) }
 {
-    month.points() as usize == points
-        && reference.points() as usize == points
+    usize::from(month.points()) == points
+        && usize::from(reference.points()) == points
         && month.intervals() <= MOST_INTERVALS
 }
 

@@ -1,13 +1,11 @@
 //! A grid's standing: who answers for which point, who pays which bill, and the cost.
-ghost use Rattle.std.specs.Prelude.{◌≡◌, ℕ, ◌<◌, true, [], map, length, is_ok};
+ghost use Rattle.std.specs.Prelude.{◌≡◌, map};
 ghost use Rattle.allocations.specs.Falls.{parts_of};
-ghost use Rattle.billing.specs.Standing.{provider_of, provided, counted, all_payable, all_whole, checked};
+ghost use Rattle.billing.specs.Standing.{provider_of, provided, counted, all_payable, checked};
 
-use allocations::{Allocation, are_whole, payers_within};
+use crate::lists::MOST_PLACES;
+use allocations::{Allocation, payers_within};
 use faults::{BookCause, Fault};
-
-/// The most parties that a grid has.
-pub(crate) const MOST_PARTIES: usize = 32;
 
 /// The most that the cost may be, in cents.
 const MOST_COST: u64 = 1_000_000_000;
@@ -28,25 +26,12 @@ pub struct Standing<'a> {
 }
 
 impl Standing<'_> {
-    // The number of the provider, 0 for none.
-    pub(crate) fn provider(&self) -> u8
-        ensures { result ≡ provider_of self.now.provider }
-    {
-        self.provider.unwrap_or(0)
-    }
-
-    // Refuses what is no standing of a grid with so many parties.
+    // Refuses what is no standing of a grid with so many parties. Its allocations are whole, as all are.
     pub(crate) fn check(&self, parties: usize) -> Result<(), Fault>
         ensures { result ≡ checked parties self.now.nominees.now self.now.nominators.now (map parts_of self.now.allocations.now) self.now.cost (provider_of self.now.provider) }
     {
-        if !self.is_counted(parties) {
+        if !self.is_counted(parties) || !are_all_payable(self.allocations, parties) {
             return Err(BookCause::OutOfRange.into());
-        }
-        if !are_all_payable(self.allocations, parties) {
-            return Err(BookCause::OutOfRange.into());
-        }
-        if !are_all_whole(self.allocations) {
-            return Err(BookCause::BrokenParts.into());
         }
         if self.cost > MOST_COST {
             return Err(BookCause::WrongAmount.into());
@@ -58,22 +43,20 @@ impl Standing<'_> {
     fn is_counted(&self, parties: usize) -> bool
         ensures { result ≡ counted parties self.now.nominees.now self.now.nominators.now (map parts_of self.now.allocations.now) self.now.cost (provider_of self.now.provider) }
     {
-        parties >= 1
-            && parties <= MOST_PARTIES
+        (1..=MOST_PLACES).contains(&parties)
             && self.nominators.len() == self.nominees.len()
             && self.allocations.len() == parties
-            && is_provided(parties, self.cost, self.provider())
+            && is_provided(parties, self.cost, self.provider)
     }
 }
 
 // Whether the provider is a party, or there is none and no cost.
-fn is_provided(parties: usize, cost: u64, provider: u8) -> bool
-    ensures { result ≡ provided parties cost provider }
+fn is_provided(parties: usize, cost: u64, provider: Option<u8>) -> bool
+    ensures { result ≡ provided parties cost (provider_of provider) }
 {
-    if provider == 0 {
-        cost == 0
-    } else {
-        provider as usize <= parties
+    match provider {
+        None | Some(0) => cost == 0,
+        Some(number) => usize::from(number) <= parties,
     }
 }
 
@@ -81,22 +64,7 @@ fn is_provided(parties: usize, cost: u64, provider: u8) -> bool
 fn are_all_payable(allocations: &[Allocation], parties: usize) -> bool
     ensures { result ≡ all_payable parties (map parts_of allocations.now) }
 {
-    for q in 0..allocations.len() {
-        if !payers_within(allocations[q].parts(), parties) {
-            return false;
-        }
-    }
-    true
-}
-
-// Whether every allocation makes up a whole.
-fn are_all_whole(allocations: &[Allocation]) -> bool
-    ensures { result ≡ all_whole (map parts_of allocations.now) }
-{
-    for q in 0..allocations.len() {
-        if !are_whole(allocations[q].parts()) {
-            return false;
-        }
-    }
-    true
+    allocations
+        .iter()
+        .all(|allocation| payers_within(allocation.parts(), parties))
 }

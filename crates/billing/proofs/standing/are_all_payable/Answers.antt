@@ -1,28 +1,14 @@
-use Rattle.std.proofs.Common.{[], map, length, get_or, sym, ap, ◌∙◌, arith}
-use Rattle.std.proofs.lemmas.List.{get_or-map, length-map}
+use Rattle.std.proofs.Common.{ap, ◌∙◌, rules}
+use borrow.Author.Tests.{tests}
+use Rattle.std.proofs.lemmas.Iterator.{YieldsList-from_slice}
+use Rattle.std.proofs.lemmas.Iterator.Search.{all_from_yields_List}
 use Rattle.allocations.specs.Falls.{parts_of}
 use Rattle.allocations.specs.Parts.{payable}
-use Rattle.allocations.proofs.Belows.{below_more, one_fails, all_pass}
-use Rattle.billing.specs.Standing.{all_payable}
+use Rattle.allocations.specs.declared.allocation.Allocation.{Allocation}
+use Rattle.billing.proofs.Payers.{list_all-payable}
 use Rattle.billing.proofs.standing.are_all_payable.Goals as goal
 
-pub returns-then-not-payers_within : goal.returns-then-not-payers_within
-unfolding all_payable
-returns-then-not-payers_within c =
-    let all = c.args.allocations.now in
-    let q = c.loop-q.q in
-    let long = length-map all parts_of in
-    one_fails (λ q. payable c.args.parties (get_or (map parts_of all) q [])) (length (map parts_of all)) q (omega arith) (ap (payable c.args.parties) (get_or-map parts_of all q record { parts = []; count = 0 } [] (omega arith) ∙ sym c.parts.ensures) ∙ sym c.payers_within.ensures ∙ c.if-not-payers_within.true)
-
-pub loop-q-preserved : goal.loop-q-preserved
-loop-q-preserved c =
-    let all = c.args.allocations.now in
-    let q = c.loop-q.q in
-    below_more (λ q. payable c.args.parties (get_or (map parts_of all) q [])) q c.loop-q.invariant (ap (payable c.args.parties) (get_or-map parts_of all q record { parts = []; count = 0 } [] (omega arith) ∙ sym c.parts.ensures) ∙ sym c.payers_within.ensures ∙ c.if-not-payers_within.false)
-
 pub returns : goal.returns
-unfolding all_payable
 returns c =
-    let all = c.args.allocations.now in
-    let long = length-map all parts_of in
-    all_pass (λ q. payable c.args.parties (get_or (map parts_of all) q [])) (length (map parts_of all)) c.loop-q.q (omega arith) c.loop-q.invariant
+    all_from_yields_List (λ (a : Allocation). payable c.args.parties (parts_of a)) _ _ _ c.all.ensures.ran (YieldsList-from_slice c.args.allocations.now (cc)) (λ x b q k. search (rules, tests))
+    ∙ list_all-payable c.args.parties c.args.allocations.now
