@@ -4,6 +4,8 @@
 
 #![tactic(auto)]
 
+ghost use Rattle.std.specs.Prelude.{◌≡◌};
+
 use faults::Fault;
 use feeds::{Feed, JoinFeed, RecordFeed, swing};
 use std::alloc::{AllocError, Global};
@@ -38,18 +40,23 @@ const FACTOR: u64 = 6_364_136_223_846_793_005;
 const SUMMAND: u64 = 1_442_695_040_888_963_407;
 
 // Numbers that look random, each from the last.
-fn next(state: u64) -> u64 {
-    state.wrapping_mul(FACTOR).wrapping_add(SUMMAND)
+#[derive(Drop)]
+struct Random {
+    state: u64,
 }
 
-fn shuffle(pairs: &mut [(u8, u8)], seed: u64) -> u64 {
-    let mut state = seed;
-    for i in 1..pairs.len() {
-        state = next(state);
-        let j = (state >> 33) as usize % (i + 1);
-        pairs.swap(i, j);
+impl Random {
+    fn next(&mut self) -> u64 {
+        self.state = self.state.wrapping_mul(FACTOR).wrapping_add(SUMMAND);
+        self.state
     }
-    state
+
+    fn shuffle(&mut self, pairs: &mut [(u8, u8)]) {
+        for i in 1..pairs.len() {
+            let j = (self.next() >> 33) as usize % (i + 1);
+            pairs.swap(i, j);
+        }
+    }
 }
 
 // How many readings of the two feeds differ.
@@ -65,16 +72,34 @@ fn differences<F: Feed, G: Feed>(one: &F, other: &G) -> Result<u32, Fault> {
     Ok(count)
 }
 
-fn joined_in_many_orders<F: Feed>(feed: &F, pairs: &mut [(u8, u8)]) -> Result<u32, Fault> {
-    let first = JoinFeed::over(feed, pairs);
-    let mut state = 1;
+// How many readings differ from those of `first` in the feeds that `again` makes, all orders together.
+fn differences_in_many_orders<F: Feed + Drop, B: FnMut(&mut Random) -> F>(
+    first: &F,
+    mut again: B,
+    seed: u64,
+) -> Result<u32, Fault>
+    requires { B.IsAlwaysCallable again }
+{
+    let mut random = Random { state: seed };
     let mut count: u32 = 0;
     for _ in 0..ORDERS {
-        state = shuffle(pairs, state);
-        let again = JoinFeed::over(feed, pairs);
-        count = count.wrapping_add(differences(&first, &again)?);
+        count = count.wrapping_add(differences(first, &again(&mut random))?);
     }
     Ok(count)
+}
+
+fn joined_in_many_orders<F: Feed>(feed: &F, pairs: &mut [(u8, u8)]) -> Result<u32, Fault> {
+    let first = JoinFeed::over(feed, pairs);
+    differences_in_many_orders(
+        &first,
+        |random|
+            ensures { result.below ≡ feed.entry }
+        {
+            random.shuffle(pairs);
+            JoinFeed::over(feed, pairs)
+        },
+        1,
+    )
 }
 
 fn stacked_in_many_orders<F: Feed>(
@@ -84,16 +109,18 @@ fn stacked_in_many_orders<F: Feed>(
     high: &mut [(u8, u8)],
 ) -> Result<u32, Fault> {
     let first = JoinFeed::over(JoinFeed::over(JoinFeed::over(feed, low), middle), high);
-    let mut state = 2;
-    let mut count: u32 = 0;
-    for _ in 0..ORDERS {
-        state = shuffle(low, state);
-        state = shuffle(middle, state);
-        state = shuffle(high, state);
-        let again = JoinFeed::over(JoinFeed::over(JoinFeed::over(feed, low), middle), high);
-        count = count.wrapping_add(differences(&first, &again)?);
-    }
-    Ok(count)
+    differences_in_many_orders(
+        &first,
+        |random|
+            ensures { result.below.below.below ≡ feed.entry }
+        {
+            random.shuffle(low);
+            random.shuffle(middle);
+            random.shuffle(high);
+            JoinFeed::over(JoinFeed::over(JoinFeed::over(feed, low), middle), high)
+        },
+        2,
+    )
 }
 
 // Points 1 and 2 are joined below, 2 and 3 above.
