@@ -1,16 +1,5 @@
 //! What a party can tell the book before a run begins.
 
-/// The kind of each notice's record.
-pub(crate) const CONNECT: u16 = 1;
-
-pub(crate) const APPOINT: u16 = 2;
-
-pub(crate) const NOMINATE: u16 = 3;
-
-pub(crate) const ALLOCATE: u16 = 4;
-
-pub(crate) const COST: u16 = 5;
-
 /// A notice, with its fields as the file holds them: reading and writing check no field.
 #[derive(Clone, Copy, Debug)]
 pub enum Notice<'a> {

@@ -1,5 +1,5 @@
 //! The parts of an allocation, as an allocate notice holds them.
-ghost use Rattle.std.specs.Prelude.{◌≡◌};
+ghost use Rattle.std.specs.Prelude.{◌≡◌, ◌↔◌, ◌%◌, ◌≤◌, length, IsTrue};
 ghost use Rattle.notices.specs.Parts.{count_of, part_of, CountsParts, ShowsParts};
 
 /// The bytes of a part: its payer, and its thousandths in two.
@@ -13,6 +13,13 @@ pub(crate) const MOST_PARTS: usize = 4;
 pub struct Part {
     pub payer: u8,
     pub thousandths: u16,
+}
+
+/// Whether the stretch is that of 0 to 4 parts.
+pub(crate) fn are_parts(stretch: &[u8]) -> bool
+    ensures { IsTrue result ↔ ((length stretch.now % 3 ≡ 0) × (length stretch.now ≤ 12)) }
+{
+    stretch.len() % PART == 0 && stretch.len() <= MOST_PARTS * PART
 }
 
 /// How many parts the stretch holds.
