@@ -1,5 +1,5 @@
 -- A notice that is written is read back, and no other notice has its bytes.
-use Rattle.std.proofs.Common.{◌≡◌, ◌≢◌, ℕ, suc, ◌+◌, ◌-◌, ◌*◌, ◌%◌, ◌<◌, ◌≤◌, cond, eqb, List, [], ◌∷◌, ◌++◌, length, get_or, take, drop, Some, None, Ok, Err, Option, Result, sym, refl, ap, ◌∙◌, subst, append_assoc, arith, Bor}
+use Rattle.std.proofs.Common.{◌≡◌, ◌≢◌, ℕ, suc, ◌+◌, ◌*◌, ◌%◌, ◌<◌, ◌≤◌, cond, eqb, List, [], ◌∷◌, ◌++◌, length, get_or, take, drop, Some, None, Ok, Err, Option, Result, sym, refl, ap, ◌∙◌, subst, append_assoc, arith, Bor}
 use Rattle.std.proofs.lemmas.List.{append_cancel_right, append-nil, take_at}
 use Rattle.std.proofs.lemmas.Bool.Decides.{nat_tests}
 use Rattle.std.proofs.lemmas.Bool.{eq-eqb, le-leb, le-ltb}
@@ -175,10 +175,10 @@ writes_back n before after (Ok size) s w = λ r h.
 writes_back n before after (Err f) s w = tt
 
 -- The body of an allocation, at the front of the bytes that it was put together in.
-pub front_body : (party : ℕ) (parts copy rest : List ℕ) → copy ≡ parts → take (1 + length parts - 0) (party ∷ (copy ++ rest)) ≡ party ∷ parts
+pub front_body : (party : ℕ) (parts copy rest : List ℕ) → copy ≡ parts → take (1 + length parts) (party ∷ (copy ++ rest)) ≡ party ∷ parts
 front_body party parts copy rest e =
-    let n : 1 + length parts - 0 ≡ suc (length parts) = omega arith in
-    ap (λ k. take k (party ∷ (copy ++ rest))) n ∙ ap (λ xs. party ∷ xs) (take_at copy rest (length parts) (ap length e) ∙ e)
+    let n : 1 + length parts ≡ suc (length parts) = omega arith in
+    rw n (ap (λ xs. party ∷ xs) (take_at copy rest (length parts) (ap length e) ∙ e))
 
 -- The record of an allocation with 0 to 4 parts is refused for the room alone.
 pub puts_allocation : (party : ℕ) (parts body before after : List ℕ) (r : Result ℕ Fault) → Sound (allocate party parts)

@@ -1,6 +1,8 @@
 -- A stretch of parts, part by part.
-use Rattle.std.proofs.Common.{◌≡◌, ℕ, zero, suc, ◌+◌, ◌*◌, ◌/◌, ◌%◌, ◌<◌, ltb, List, [], ◌∷◌, length, get_or, Some, None, sym, refl, ap, ◌∙◌, inl, inr, add-zero, add_assoc, arith}
+use Rattle.std.proofs.Common.{◌≡◌, ℕ, zero, suc, ◌+◌, ◌*◌, ◌/◌, ◌%◌, ◌<◌, ltb, List, [], ◌∷◌, length, get_or, drop, Some, None, sym, refl, ap, ◌∙◌, inl, inr, add-zero, add_assoc, arith}
 use Rattle.std.specs.List.{flat_map, AllByRecursion, slice_get}
+use Rattle.std.specs.Simd.{first_chunks}
+use Rattle.std.proofs.lemmas.List.{get_or-drop, get_or-take}
 use Rattle.std.proofs.lemmas.Option.{slice_get_past}
 use Rattle.std.proofs.lemmas.Bool.{cases_lt, cond-false, cond-true, le-ltb, lt-ltb}
 use Rattle.files.specs.Numbers.{two_at}
@@ -53,3 +55,19 @@ shown stretch i ps h =
           cond-false (ltb i (count_of stretch)) (Some (held stretch i)) None (le-ltb i (count_of stretch) (omega arith))
           ∙ sym (slice_get_past ps i l)
     ]
+
+-- A byte of a stretch, by the part that it stands in.
+chunk_byte : (k : ℕ) (xs : List ℕ) (i : ℕ) (d : List ℕ) (j : ℕ) → i < k → j < 3
+    → get_or (get_or (first_chunks 3 k xs) i d) j 0 ≡ get_or xs (3 * i + j) 0
+chunk_byte zero xs i d j n l = absurd (omega arith)
+chunk_byte (suc k) xs zero d j n l = grind (arith, get_or-take)
+chunk_byte (suc k) xs (suc i) d j n l = grind (arith, chunk_byte k (drop 3 xs) i d j (omega arith) l, get_or-drop)
+
+-- The three bytes at a place are those of the part at that place.
+pub part_in_chunk : (stretch : List ℕ) (i : ℕ) (chunk : List ℕ) → i < count_of stretch
+    → chunk ≡ get_or (first_chunks 3 (count_of stretch) stretch) i chunk
+    → Some (record { payer = get_or chunk 0 0; thousandths = two_at chunk 1 }) ≡ part_of stretch i
+part_in_chunk stretch i chunk l e =
+    let byte : (j : ℕ) → j < 3 → get_or chunk j 0 ≡ get_or stretch (3 * i + j) 0 =
+    λ j h. ap (λ xs. get_or xs j 0) e ∙ chunk_byte (count_of stretch) stretch i chunk j l h in
+    simp (byte 0 (omega arith), byte 1 (omega arith), byte 2 (omega arith), lt-ltb _ _ l, add-zero, add_assoc) refl

@@ -35,10 +35,8 @@ pub fn part_at(parts: &[u8], i: usize) -> Option<Part>
     ensures payer_and_thousandths_of_the_place { result ≡ part_of parts.now i }
     ensures shows_the_parts_written { ShowsParts parts.now i result }
 {
-    if i >= part_count(parts) {
-        return None;
-    }
-    let payer = parts[PART * i];
-    let thousandths = u16::from_le_bytes([parts[PART * i + 1], parts[PART * i + 2]]);
+    let (parts, _) = parts.as_chunks::<PART>();
+    let [payer, low, high] = *parts.get(i)?;
+    let thousandths = u16::from_le_bytes([low, high]);
     Some(Part { payer, thousandths })
 }

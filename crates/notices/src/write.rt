@@ -29,11 +29,12 @@ fn put_allocation(party: u8, parts: &[u8], out: &mut [u8]) -> Result<usize, Faul
     if !are_parts(parts) {
         return Err(Fault::new(BytesCause::WrongLength, 0));
     }
+    // No call may allocate, so the body is put together in an array that holds the longest.
     let length = 1 + parts.len();
     let mut body = [0; LONGEST_BODY];
     body[0] = party;
     body[1..length].copy_from_slice(parts);
-    put_notice(Kind::Allocate, &body[0..length], out)
+    put_notice(Kind::Allocate, &body[..length], out)
 }
 
 /// Writes `notice` to the front of `out`, and answers how many bytes it took.
