@@ -8,7 +8,7 @@ use Rattle.std.proofs.lemmas.Bool.{cases_lt, cond-false, cond-true, le-ltb, lt-l
 use Rattle.files.specs.Numbers.{two_at}
 use Rattle.files.proofs.Bytes.{two_value}
 use Rattle.notices.specs.declared.part.Part.{Part}
-use Rattle.notices.specs.Parts.{part_bytes, count_of, part_of, Stretch}
+use Rattle.notices.specs.Parts.{part_bytes, count_of, part_from, part_of, Stretch}
 
 -- Three bytes for each part.
 length-parts : (ps : List Part) → length (flat_map part_bytes ps) ≡ 3 * length ps
@@ -66,7 +66,7 @@ chunk_byte (suc k) xs (suc i) d j n l = grind (arith, chunk_byte k (drop 3 xs) i
 -- The three bytes at a place are those of the part at that place.
 pub part_in_chunk : (stretch : List ℕ) (i : ℕ) (chunk : List ℕ) → i < count_of stretch
     → chunk ≡ get_or (first_chunks 3 (count_of stretch) stretch) i chunk
-    → Some (record { payer = get_or chunk 0 0; thousandths = two_at chunk 1 }) ≡ part_of stretch i
+    → Some (part_from chunk) ≡ part_of stretch i
 part_in_chunk stretch i chunk l e =
     let byte : (j : ℕ) → j < 3 → get_or chunk j 0 ≡ get_or stretch (3 * i + j) 0 =
     λ j h. ap (λ xs. get_or xs j 0) e ∙ chunk_byte (count_of stretch) stretch i chunk j l h in
