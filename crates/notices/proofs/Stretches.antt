@@ -7,6 +7,7 @@ use Rattle.std.proofs.lemmas.Option.{slice_get_past}
 use Rattle.std.proofs.lemmas.Bool.{cases_lt, cond-false, cond-true, le-ltb, lt-ltb}
 use Rattle.files.specs.Numbers.{two_at}
 use Rattle.files.proofs.Bytes.{two_value}
+use Rattle.files.proofs.Pieces.{piece_at}
 use Rattle.notices.specs.declared.part.Part.{Part}
 use Rattle.notices.specs.Parts.{part_bytes, count_of, part_from, part_of, Stretch}
 
@@ -56,18 +57,14 @@ shown stretch i ps h =
           ∙ sym (slice_get_past ps i l)
     ]
 
--- A byte of a stretch, by the part that it stands in.
-chunk_byte : (k : ℕ) (xs : List ℕ) (i : ℕ) (d : List ℕ) (j : ℕ) → i < k → j < 3
-    → get_or (get_or (first_chunks 3 k xs) i d) j 0 ≡ get_or xs (3 * i + j) 0
-chunk_byte zero xs i d j n l = absurd (omega arith)
-chunk_byte (suc k) xs zero d j n l = grind (arith, get_or-take)
-chunk_byte (suc k) xs (suc i) d j n l = grind (arith, chunk_byte k (drop 3 xs) i d j (omega arith) l, get_or-drop)
-
 -- The three bytes at a place are those of the part at that place.
 pub part_in_chunk : (stretch : List ℕ) (i : ℕ) (chunk : List ℕ) → i < count_of stretch
     → chunk ≡ get_or (first_chunks 3 (count_of stretch) stretch) i chunk
     → Some (part_from chunk) ≡ part_of stretch i
 part_in_chunk stretch i chunk l e =
     let byte : (j : ℕ) → j < 3 → get_or chunk j 0 ≡ get_or stretch (3 * i + j) 0 =
-    λ j h. ap (λ xs. get_or xs j 0) e ∙ chunk_byte (count_of stretch) stretch i chunk j l h in
+    λ j h.
+    let at : i * 3 + j ≡ 3 * i + j = omega arith in
+    ap (λ xs. get_or xs j 0) (e ∙ piece_at 3 (count_of stretch) stretch i chunk l)
+    ∙ get_or-take 3 (drop (i * 3) stretch) j 0 h ∙ get_or-drop (i * 3) stretch j 0 ∙ ap (λ n. get_or stretch n 0) at in
     simp (byte 0 (omega arith), byte 1 (omega arith), byte 2 (omega arith), lt-ltb _ _ l, add-zero, add_assoc) refl
