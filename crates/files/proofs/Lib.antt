@@ -1,3 +1,4 @@
 pub mod Bytes
 pub mod Elements
 pub mod Frames
+pub mod Pieces

@@ -1,5 +1,5 @@
 -- A notice that is written is read back, and no other notice has its bytes.
-use Rattle.std.proofs.Common.{◌≡◌, ℕ, suc, ◌+◌, ◌-◌, ◌*◌, ◌%◌, ◌<◌, ◌≤◌, cond, eqb, List, [], ◌∷◌, ◌++◌, length, get_or, take, drop, Some, None, Ok, Err, Option, Result, sym, refl, ap, ◌∙◌, subst, append_assoc, arith, Bor}
+use Rattle.std.proofs.Common.{◌≡◌, ◌≢◌, ℕ, suc, ◌+◌, ◌*◌, ◌%◌, ◌<◌, ◌≤◌, cond, eqb, List, [], ◌∷◌, ◌++◌, length, get_or, take, drop, Some, None, Ok, Err, Option, Result, sym, refl, ap, ◌∙◌, subst, append_assoc, arith, Bor}
 use Rattle.std.proofs.lemmas.List.{append_cancel_right, append-nil, take_at}
 use Rattle.std.proofs.lemmas.Bool.Decides.{nat_tests}
 use Rattle.std.proofs.lemmas.Bool.{eq-eqb, le-leb, le-ltb}
@@ -7,7 +7,9 @@ use Rattle.faults.specs.declared.Fault.{Fault}
 use Rattle.files.specs.Records.{framed, Framable, told_length, told_kind, opening, first, over}
 use Rattle.files.proofs.Bytes.{four_value}
 use Rattle.files.proofs.Frames.{framed_length, framed_kind, framed_opens, same_records}
+use Rattle.notices.specs.declared.kind.Kind.TheVariants.{Connect, Appoint, Nominate, Allocate, Cost}
 use Rattle.notices.specs.declared.notice.Notice.{Notice}
+use Rattle.notices.specs.Kinds.{Decodes}
 use Rattle.notices.specs.Notices.{Said, connect, appoint, nominate, allocate, cost, said, kind_of, body_of, encode, Sound}
 use Rattle.notices.specs.Reading.{naming, refusal, Reads}
 use Rattle.notices.specs.Writing.{misshapen, crowded, unwritable, PutsNotice, Writes}
@@ -138,6 +140,16 @@ read_written bs (Ok p) h = λ own e before after w l k.
     put_own (said p.0) own before after w h.1 same l k
 read_written bs (Err f) h = tt
 
+-- A number that no kind has is refused whatever the length.
+pub unknown : (number size : ℕ) (fault : Fault) → Decodes number (Err fault) → naming number size ≡ Some fault
+unknown number size fault h =
+    let one : 1 ≢ number = h.1 Connect in
+    let two : 2 ≢ number = h.1 Appoint in
+    let three : 3 ≢ number = h.1 Nominate in
+    let four : 4 ≢ number = h.1 Allocate in
+    let five : 5 ≢ number = h.1 Cost in
+    rw h.0 (grind (arith, nat_tests))
+
 -- What a record that is opened is read as.
 pub read_fault : (bs : List ℕ) (kind : ℕ) (body rest : List ℕ) → Framable kind body → bs ≡ framed kind body ++ rest
     → refusal bs ≡ naming kind (4 + length body)
@@ -163,10 +175,10 @@ writes_back n before after (Ok size) s w = λ r h.
 writes_back n before after (Err f) s w = tt
 
 -- The body of an allocation, at the front of the bytes that it was put together in.
-pub front_body : (party : ℕ) (parts copy rest : List ℕ) → copy ≡ parts → take (1 + length parts - 0) (party ∷ (copy ++ rest)) ≡ party ∷ parts
+pub front_body : (party : ℕ) (parts copy rest : List ℕ) → copy ≡ parts → take (1 + length parts) (party ∷ (copy ++ rest)) ≡ party ∷ parts
 front_body party parts copy rest e =
-    let n : 1 + length parts - 0 ≡ suc (length parts) = omega arith in
-    ap (λ k. take k (party ∷ (copy ++ rest))) n ∙ ap (λ xs. party ∷ xs) (take_at copy rest (length parts) (ap length e) ∙ e)
+    let n : 1 + length parts ≡ suc (length parts) = omega arith in
+    rw n (ap (λ xs. party ∷ xs) (take_at copy rest (length parts) (ap length e) ∙ e))
 
 -- The record of an allocation with 0 to 4 parts is refused for the room alone.
 pub puts_allocation : (party : ℕ) (parts body before after : List ℕ) (r : Result ℕ Fault) → Sound (allocate party parts)

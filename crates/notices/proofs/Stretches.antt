@@ -1,12 +1,15 @@
 -- A stretch of parts, part by part.
-use Rattle.std.proofs.Common.{◌≡◌, ℕ, zero, suc, ◌+◌, ◌*◌, ◌/◌, ◌%◌, ◌<◌, ltb, List, [], ◌∷◌, length, get_or, Some, None, sym, refl, ap, ◌∙◌, inl, inr, add-zero, add_assoc, arith}
+use Rattle.std.proofs.Common.{◌≡◌, ℕ, zero, suc, ◌+◌, ◌*◌, ◌/◌, ◌%◌, ◌<◌, ltb, List, [], ◌∷◌, length, get_or, drop, Some, None, sym, refl, ap, ◌∙◌, inl, inr, add-zero, add_assoc, arith}
 use Rattle.std.specs.List.{flat_map, AllByRecursion, slice_get}
+use Rattle.std.specs.Simd.{first_chunks}
+use Rattle.std.proofs.lemmas.List.{get_or-drop, get_or-take}
 use Rattle.std.proofs.lemmas.Option.{slice_get_past}
 use Rattle.std.proofs.lemmas.Bool.{cases_lt, cond-false, cond-true, le-ltb, lt-ltb}
 use Rattle.files.specs.Numbers.{two_at}
 use Rattle.files.proofs.Bytes.{two_value}
+use Rattle.files.proofs.Pieces.{piece_at}
 use Rattle.notices.specs.declared.part.Part.{Part}
-use Rattle.notices.specs.Parts.{part_bytes, count_of, part_of, Stretch}
+use Rattle.notices.specs.Parts.{part_bytes, count_of, part_from, part_of, Stretch}
 
 -- Three bytes for each part.
 length-parts : (ps : List Part) → length (flat_map part_bytes ps) ≡ 3 * length ps
@@ -53,3 +56,15 @@ shown stretch i ps h =
           cond-false (ltb i (count_of stretch)) (Some (held stretch i)) None (le-ltb i (count_of stretch) (omega arith))
           ∙ sym (slice_get_past ps i l)
     ]
+
+-- The three bytes at a place are those of the part at that place.
+pub part_in_chunk : (stretch : List ℕ) (i : ℕ) (chunk : List ℕ) → i < count_of stretch
+    → chunk ≡ get_or (first_chunks 3 (count_of stretch) stretch) i chunk
+    → Some (part_from chunk) ≡ part_of stretch i
+part_in_chunk stretch i chunk l e =
+    let byte : (j : ℕ) → j < 3 → get_or chunk j 0 ≡ get_or stretch (3 * i + j) 0 =
+    λ j h.
+    let at : i * 3 + j ≡ 3 * i + j = omega arith in
+    ap (λ xs. get_or xs j 0) (e ∙ piece_at 3 (count_of stretch) stretch i chunk l)
+    ∙ get_or-take 3 (drop (i * 3) stretch) j 0 h ∙ get_or-drop (i * 3) stretch j 0 ∙ ap (λ n. get_or stretch n 0) at in
+    simp (byte 0 (omega arith), byte 1 (omega arith), byte 2 (omega arith), lt-ltb _ _ l, add-zero, add_assoc) refl

@@ -1,6 +1,7 @@
 -- The parts of an allocation: three bytes each, a payer and its thousandths.
-use Rattle.std.specs.Prelude.{◌≡◌, ℕ, ◌+◌, ◌*◌, ◌/◌, ◌<◌, cond, List, ◌∷◌, length, Some, None, Option, nat_lt, slice_index}
+use Rattle.std.specs.Prelude.{◌≡◌, ℕ, ◌+◌, ◌*◌, ◌/◌, ◌<◌, cond, List, ◌∷◌, map, length, Some, None, Option, nat_lt, slice_index}
 use Rattle.std.specs.List.{flat_map, AllByRecursion, slice_get}
+use Rattle.std.specs.Simd.{first_chunks}
 use Rattle.files.specs.Numbers.{two, two_at}
 use Rattle.notices.specs.declared.part.Part.{Part}
 
@@ -11,6 +12,14 @@ part_bytes p = p.payer ∷ two p.thousandths
 -- How many parts a stretch of bytes holds.
 abbrev pub count_of : List ℕ → ℕ
 count_of stretch = length stretch / 3
+
+-- The part of three bytes.
+abbrev pub part_from : List ℕ → Part
+part_from bytes = record { payer = slice_index bytes 0; thousandths = two_at bytes 1 }
+
+-- The parts of a stretch, in their order.
+abbrev pub parts_of : List ℕ → List Part
+parts_of stretch = map part_from (first_chunks 3 (count_of stretch) stretch)
 
 -- The part at a place, from 0, where there is one.
 abbrev pub part_of : List ℕ → ℕ → Option Part

@@ -7,6 +7,7 @@
 
 #![tactic(auto)]
 
+mod kind;
 mod notice;
 mod part;
 mod read;

@@ -1,15 +1,8 @@
 //! What a party can tell the book before a run begins.
+ghost use Rattle.std.specs.Prelude.{Some};
 
-/// The kind of each notice's record.
-pub(crate) const CONNECT: u16 = 1;
-
-pub(crate) const APPOINT: u16 = 2;
-
-pub(crate) const NOMINATE: u16 = 3;
-
-pub(crate) const ALLOCATE: u16 = 4;
-
-pub(crate) const COST: u16 = 5;
+use crate::part::Part;
+use std::fmt;
 
 /// A notice, with its fields as the file holds them: reading and writing check no field.
 #[derive(Clone, Copy, Debug)]
@@ -37,4 +30,36 @@ pub enum Notice<'a> {
         provider: u8,
         cents: u32,
     },
+}
+
+/// What the notice says, as `connect 3 7`; each part of an allocation as `3:500`.
+impl fmt::Display for Notice<'_> {
+    ghost use Rattle.notices.specs.Texts.{text_of};
+
+    ghost output = { λ notice. Some (text_of notice) };
+
+    fn fmt<W: fmt::Write>(&self, f: &mut fmt::Formatter<W>) -> fmt::Result {
+        match *self {
+            Notice::Connect { point, user } => write!(f, "connect {point} {user}"),
+            Notice::Appoint {
+                sender,
+                point,
+                nominator,
+            } => write!(f, "appoint {sender} {point} {nominator}"),
+            Notice::Nominate {
+                sender,
+                point,
+                nominee,
+            } => write!(f, "nominate {sender} {point} {nominee}"),
+            Notice::Allocate { party, parts } => {
+                write!(f, "allocate {party}")?;
+                let (parts, _) = parts.as_chunks();
+                for part in parts {
+                    write!(f, " {}", Part::from(*part))?;
+                }
+                Ok(())
+            }
+            Notice::Cost { provider, cents } => write!(f, "cost {provider} {cents}"),
+        }
+    }
 }

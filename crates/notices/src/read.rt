@@ -2,43 +2,38 @@
 ghost use Rattle.notices.specs.Reading.{Names, Reads};
 ghost use Rattle.notices.specs.Laws.{OwnBytes, ReadWritten, ReadsBack};
 
-use crate::notice::{ALLOCATE, APPOINT, CONNECT, COST, NOMINATE, Notice};
-use crate::part::{MOST_PARTS, PART};
-use faults::{BytesCause, Fault, NoticeCause};
+use crate::kind::Kind;
+use crate::notice::Notice;
+use crate::part::are_parts;
+use faults::{BytesCause, Fault};
 use files::{Record, open_record};
 
 /// The notice that a record holds. Its fault stands at 0, where the record starts.
 fn notice_of<'a>(held: Record<'a>) -> Result<Notice<'a>, Fault>
     ensures { Names held.entry.kind held.entry.body.now result }
 {
-    match (held.kind, held.body) {
-        (CONNECT, [point, user]) => Ok(Notice::Connect {
-            point: *point,
-            user: *user,
+    let kind = Kind::try_from(held.kind)?;
+    match (kind, held.body) {
+        (Kind::Connect, &[point, user]) => Ok(Notice::Connect { point, user }),
+        (Kind::Appoint, &[sender, point, nominator]) => Ok(Notice::Appoint {
+            sender,
+            point,
+            nominator,
         }),
-        (APPOINT, [sender, point, nominator]) => Ok(Notice::Appoint {
-            sender: *sender,
-            point: *point,
-            nominator: *nominator,
+        (Kind::Nominate, &[sender, point, nominee]) => Ok(Notice::Nominate {
+            sender,
+            point,
+            nominee,
         }),
-        (NOMINATE, [sender, point, nominee]) => Ok(Notice::Nominate {
-            sender: *sender,
-            point: *point,
-            nominee: *nominee,
+        (Kind::Allocate, [party, parts @ ..]) if are_parts(parts) => Ok(Notice::Allocate {
+            party: *party,
+            parts,
         }),
-        (ALLOCATE, [party, parts @ ..])
-            if parts.len() % PART == 0 && parts.len() <= MOST_PARTS * PART => Ok(
-            Notice::Allocate {
-                party: *party,
-                parts,
-            },
-        ),
-        (COST, [provider, a, b, c, d]) => Ok(Notice::Cost {
+        (Kind::Cost, [provider, a, b, c, d]) => Ok(Notice::Cost {
             provider: *provider,
             cents: u32::from_le_bytes([*a, *b, *c, *d]),
         }),
-        (CONNECT..=COST, _) => Err(Fault::new(BytesCause::WrongLength, 0)),
-        _ => Err(Fault::new(NoticeCause::UnexpectedKind, 0)),
+        _ => Err(Fault::new(BytesCause::WrongLength, 0)),
     }
 }
 

@@ -1,6 +1,5 @@
-use Rattle.std.proofs.Common.{rules}
 use Rattle.notices.proofs.Stretches.{counted}
 use Rattle.notices.proofs.part.part_count.Goals as goal
 
-pub returns : goal.returns
-returns c = record { one_for_each_three_bytes = search rules; counts_the_parts_written = counted c.args.parts.now }
+pub returns-clause-counts_the_parts_written : goal.returns-clause-counts_the_parts_written
+returns-clause-counts_the_parts_written c = counted c.args.parts.now

@@ -1,10 +1,6 @@
-use Rattle.std.proofs.Common.{arith, rules}
-use Rattle.std.proofs.lemmas.List.{places}
+use Rattle.std.proofs.Common.{arith}
 use Rattle.notices.proofs.Notes.{front_body, puts_allocation}
 use Rattle.notices.proofs.write.put_allocation.Goals as goal
-
-pub slice_bounds-put_notice-end : goal.slice_bounds-put_notice-end
-slice_bounds-put_notice-end c = search (rules, places)
 
 pub returns : goal.returns
 returns c =
