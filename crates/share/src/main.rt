@@ -15,7 +15,7 @@ fn answer(rt: &HostRuntime, number: u64, line: &str) -> anyhow::Result<()> {
 }
 
 fn run(rt: &HostRuntime) -> anyhow::Result<()> {
-    for (number, line) in (1..=u64::MAX).zip(rt.lines(rt.alloc())) {
+    for (number, line) in (1u64..).zip(rt.lines(rt.alloc())) {
         answer(rt, number, line?.as_str())?;
     }
     Ok(())
