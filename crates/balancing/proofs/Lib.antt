@@ -1,3 +1,2 @@
 pub mod Prices
 pub mod Bounds
-pub mod Intervals

@@ -13,11 +13,11 @@ pub fn figures_hold() -> bool
     ensures published_rates_give_them { result ≡ true }
 {
     let rates = Rates::PUBLISHED;
-    rates.charge(15_000, TOLERANCE).unwrap() == 252_000_000
-        && rates.charge(15_001, TOLERANCE).unwrap() == 252_021_840
-        && rates.charge(30_000, TOLERANCE).unwrap() == 579_600_000
-        && rates.charge(0, TOLERANCE).unwrap() == 0
-        && rates.claim(0).unwrap() == 0
-        && rates.claim(10_000).unwrap() == 168_000_000
-        && rates.tolerance(1_000_067).unwrap() == 15_001
+    rates.charge(15_000, TOLERANCE) == Ok(252_000_000)
+        && rates.charge(15_001, TOLERANCE) == Ok(252_021_840)
+        && rates.charge(30_000, TOLERANCE) == Ok(579_600_000)
+        && rates.charge(0, TOLERANCE) == Ok(0)
+        && rates.claim(0) == Ok(0)
+        && rates.claim(10_000) == Ok(168_000_000)
+        && rates.tolerance(1_000_067) == Ok(15_001)
 }

@@ -15,9 +15,7 @@ fn answer(rt: &HostRuntime, number: u64, line: &str) -> anyhow::Result<()> {
 }
 
 fn run(rt: &HostRuntime) -> anyhow::Result<()> {
-    let mut number: u64 = 0;
-    for line in rt.lines(rt.alloc()) {
-        number = number.saturating_add(1);
+    for (number, line) in (1u64..).zip(rt.lines(rt.alloc())) {
         answer(rt, number, line?.as_str())?;
     }
     Ok(())

@@ -1,7 +1,9 @@
 -- The words of a text, taken off its front one by one.
-use Rattle.std.proofs.Common.{◌≡◌, ℕ, ◌+◌, ◌<◌, Bool, true, false, cond, eqb, ltb, List, [], ◌∷◌, length, take, drop, filter, sym, refl, ap, ◌∙◌, ⊎_elim, one-add, arith, length-drop, length-take}
-use Rattle.std.specs.List.{prefix_len}
-use Rattle.std.proofs.lemmas.Bool.{cases_Bool, cond-true, cond-false, lt-ltb}
+use Rattle.std.proofs.Common.{◌≡◌, ℕ, ◌+◌, ◌<◌, Bool, true, false, cond, eqb, ltb, List, [], ◌∷◌, length, take, drop, filter, not, Option, ◌≤◌, sym, refl, ap, ◌∙◌, ⊎_elim, one-add, arith}
+use Rattle.std.specs.List.{prefix_len, position, position_or_len}
+use Rattle.std.specs.Option.{unwrap_or}
+use Rattle.std.proofs.lemmas.List.Sums.{prefix_len-le-length}
+use Rattle.std.proofs.lemmas.Bool.{cases_Bool, cases_lt, cond-true, cond-false, lt-ltb, le-ltb}
 use Rattle.sharing_text.specs.Words.{is_blank, onto, pieces, words, past_blanks, word_of, after_word}
 
 -- the pieces behind the first
@@ -59,8 +61,33 @@ no_word (byte ∷ text) h =
     (λ e. absurd (omega (arith, rw (e, e, one-add (run text)) at h)))
     (cases_Bool (eqb byte 32))
 
--- a word that is taken off leaves less
-pub less_left : (text word rest : List ℕ) → word ≡ word_of text → rest ≡ after_word text → 0 < length word → length rest < length text
-less_left text word rest w r some =
-    let from = past_blanks text in
-    omega (arith, ap length w, ap length r, length-take (run from) from, length-drop (run from) from, length-drop (prefix_len (is_blank true) text) text)
+-- a place that is looked for, or else the length
+place_found : (p : ℕ → Bool) (text : List ℕ) (o : Option ℕ) → o ≡ position p text → unwrap_or o (length text) ≡ position_or_len p text
+place_found p text o e =
+    let most = prefix_len-le-length (λ x. not (p x)) text in
+    ⊎_elim
+    (λ (lt : position_or_len p text < length text). rw (e, lt-ltb (position_or_len p text) (length text) lt) refl)
+    (λ (le : length text ≤ position_or_len p text). rw (e, le-ltb (position_or_len p text) (length text) le) (omega arith))
+    (cases_lt (position_or_len p text) (length text))
+
+blanks_twice : (text : List ℕ) → position_or_len (is_blank false) text ≡ prefix_len (is_blank true) text
+blanks_twice [] = refl
+blanks_twice (byte ∷ text) =
+    ⊎_elim
+    (λ e. rw e (ap (λ n. 1 + n) (blanks_twice text)))
+    (λ e. rw e refl)
+    (cases_Bool (eqb byte 32))
+
+-- a text that is cut at its first byte that is no blank, and then at the first blank
+module _ (text from : List ℕ) (start end : Option ℕ) (first : start ≡ position (is_blank false) text) (past : from ≡ drop (unwrap_or start (length text)) text) (last : end ≡ position (is_blank true) from) where
+  starts : from ≡ past_blanks text
+  starts = past ∙ ap (λ n. drop n text) (place_found (is_blank false) text start first ∙ blanks_twice text)
+
+  ends : unwrap_or end (length from) ≡ run (past_blanks text)
+  ends = place_found (is_blank true) from end last ∙ ap (λ (xs : List ℕ). run xs) starts
+
+  pub cut_word : (word : List ℕ) → word ≡ take (unwrap_or end (length from)) from → word ≡ word_of text
+  cut_word word e = e ∙ ap (λ n. take n from) ends ∙ ap (λ (xs : List ℕ). take (run (past_blanks text)) xs) starts
+
+  pub cut_rest : (rest : List ℕ) → rest ≡ drop (unwrap_or end (length from)) from → rest ≡ after_word text
+  cut_rest rest e = e ∙ ap (λ n. drop n from) ends ∙ ap (λ (xs : List ℕ). drop (run (past_blanks text)) xs) starts

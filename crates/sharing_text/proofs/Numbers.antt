@@ -1,5 +1,5 @@
 -- Numbers in words, and what 64 bits hold of them.
-use Rattle.std.proofs.Common.{◌≡◌, ℕ, ◌+◌, ◌-◌, ◌*◌, ◌<◌, ◌≤◌, min, true, eqb, ltb, List, [], ◌∷◌, ◌++◌, map, length, get_or, take, Some, None, sum, Option, sym, refl, ap, ◌∙◌, ⊎_elim, append_assoc, append-nil, arith}
+use Rattle.std.proofs.Common.{◌≡◌, ℕ, ◌+◌, ◌-◌, ◌*◌, ◌<◌, ◌≤◌, min, true, eqb, ltb, List, [], ◌∷◌, map, length, get_or, take, Some, None, sum, Option, sym, refl, ◌∙◌, ⊎_elim, arith}
 use Rattle.std.specs.Option.{option_map}
 use Rattle.std.specs.Int.Digits.{number_from_digits}
 use Rattle.std.specs.List.{prefix_len}
@@ -11,7 +11,7 @@ use Rattle.std.proofs.lemmas.Bool.Decides.{nat_tests}
 use Rattle.sharing.specs.Domain.{domain}
 use Rattle.sharing.specs.declared.choice.Choice.{Choice}
 use Rattle.sharing_text.specs.Replies.{shared_by, with_weights}
-use Rattle.sharing_text.specs.Request.{is_digit, number_of, with_number, numbers_of, capped, all_capped}
+use Rattle.sharing_text.specs.Request.{is_digit, number_of, capped, all_capped}
 
 pub no_number : (word : List ℕ) → prefix_len is_digit word < length word → number_of word ≡ None
 no_number word h =
@@ -27,27 +27,6 @@ digit_more word i value tens digit next lt was ten new then =
     let more = number_more 10 ds i (omega (arith, length-map word (λ byte. byte - 48))) in
     let here = get_or-map (λ byte. byte - 48) word i 0 0 lt in
     omega arith
-
--- one number more in front of those that are left
-pub number_kept : (done : List ℕ) (word : List ℕ) (words : List (List ℕ)) (value : ℕ) → option_map capped (number_of word) ≡ Some value → option_map (λ ns. done ++ ns) (option_map all_capped (numbers_of (word ∷ words))) ≡ option_map (λ ns. (done ++ value ∷ []) ++ ns) (option_map all_capped (numbers_of words))
-number_kept done word words value e = step (number_of word) (numbers_of words) e
-  where
-    step : (one : Option ℕ) (rest : Option (List ℕ)) → option_map capped one ≡ Some value → option_map (λ ns. done ++ ns) (option_map all_capped (with_number one rest)) ≡ option_map (λ ns. (done ++ value ∷ []) ++ ns) (option_map all_capped rest)
-    step None rest h = let z : ◌≡◌ {A = ℕ} 0 1 = cc in absurd (omega arith)
-    step (Some n) None h = refl
-    step (Some n) (Some ns) h = let same : capped n ≡ value = cc in rw same (ap Some (sym (append_assoc done (value ∷ []) (all_capped ns))))
-
--- no number more
-pub numbers_end : (done : List ℕ) (words : List (List ℕ)) → words ≡ [] → option_map (λ ns. done ++ ns) (option_map all_capped (numbers_of words)) ≡ Some done
-numbers_end done words e = ap (λ (ws : List (List ℕ)). option_map (λ ns. done ++ ns) (option_map all_capped (numbers_of ws))) e ∙ ap Some (append-nil done)
-
--- a word that is no number
-pub numbers_broken : (done : List ℕ) (word : List ℕ) (words : List (List ℕ)) → option_map capped (number_of word) ≡ None → option_map (λ ns. done ++ ns) (option_map all_capped (numbers_of (word ∷ words))) ≡ None
-numbers_broken done word words e = step (number_of word) e
-  where
-    step : (one : Option ℕ) → option_map capped one ≡ None → option_map (λ ns. done ++ ns) (option_map all_capped (with_number one (numbers_of words))) ≡ None
-    step None h = refl
-    step (Some n) h = let z : ◌≡◌ {A = ℕ} 0 1 = cc in absurd (omega arith)
 
 small_same : (ws : List ℕ) → sum (all_capped ws) ≤ 9000000000 → all_capped ws ≡ ws
 small_same [] h = refl

@@ -19,7 +19,7 @@ pub data Answer : Type 0 where
 abbrev pub told : Reply → Answer
 told code.Silence = silence
 told code.Malformed = malformed
-told (code.Refused n) = refused n
+told (code.Refused fault) = refused (fault-number fault.layer)
 told (code.Shares v) = shares (vec_items v)
 
 -- In its domain a rule shares; outside it refuses, with 13.

@@ -1,37 +1,21 @@
 // What a line asks for.
-ghost use Rattle.std.specs.Prelude.{◌≡◌, ◌≤◌, true, IfOk, vec_items};
+ghost use Rattle.std.specs.Prelude.{◌≡◌, IfOk, vec_items};
 ghost use Rattle.std.specs.Option.{option_map};
-ghost use Rattle.std.specs.Str.{bytes_eq};
-ghost use Rattle.sharing_text.specs.Request.{rule_named, is_digit, number_of, numbers_of, capped, all_capped};
+ghost use Rattle.sharing_text.specs.Request.{rule_named, number_of, numbers_of, capped, all_capped};
 ghost use Rattle.sharing_text.specs.Words.{words};
 
 use crate::words::next_word;
 use sharing::Choice;
 use std::alloc::{AllocError, Global};
 
-fn is_text(word: &[u8], text: &[u8]) -> bool
-    ensures { result ≡ bytes_eq word.now text.now }
-{
-    word == text
-}
-
 pub(crate) fn rule_named(name: &[u8]) -> Option<Choice>
     ensures { result ≡ rule_named name.now }
 {
-    if is_text(name, b"weight") {
-        Some(Choice::Weight)
-    } else if is_text(name, b"heads") {
-        Some(Choice::Heads)
-    } else {
-        None
+    match name {
+        b"weight" => Some(Choice::Weight),
+        b"heads" => Some(Choice::Heads),
+        _ => None,
     }
-}
-
-fn is_digit(byte: u8) -> bool
-    ensures value { result ≡ is_digit byte }
-    ensures at_least { result ≡ true → 48 ≤ byte }
-{
-    byte >= b'0' && byte <= b'9'
 }
 
 // The number that a word writes, or the largest there is where it is larger.
@@ -42,13 +26,13 @@ pub(crate) fn number(word: &[u8]) -> Option<u64>
         return None;
     }
     let mut value: u64 = 0;
-    for byte in word {
-        if !is_digit(*byte) {
+    for &byte in word {
+        if !byte.is_ascii_digit() {
             return None;
         }
         value = value
             .saturating_mul(10)
-            .saturating_add(u64::from(*byte - b'0'));
+            .saturating_add(u64::from(byte - b'0'));
     }
     Some(value)
 }
@@ -59,15 +43,11 @@ pub(crate) fn numbers(heap: Global, text: &[u8]) -> Result<Option<Vec<u64>>, All
 {
     let mut numbers = Vec::new(heap);
     let mut rest = text;
-    while !rest.is_empty() {
-        let (word, after) = next_word(rest);
-        if word.is_empty() {
-            return Ok(Some(numbers));
-        }
-        match number(word) {
-            Some(value) => numbers.push(value)?,
-            None => return Ok(None),
-        }
+    while let Some((word, after)) = next_word(rest) {
+        let Some(value) = number(word) else {
+            return Ok(None);
+        };
+        numbers.push(value)?;
         rest = after;
     }
     Ok(Some(numbers))

@@ -1,5 +1,5 @@
 // The answer to a line.
-ghost use Rattle.std.specs.Prelude.{◌≡◌, ◌||◌, length, IfOk, ◌==◌, slice_index};
+ghost use Rattle.std.specs.Prelude.{◌≡◌, ◌==◌, IfOk, slice_index};
 ghost use Rattle.sharing_text.specs.Replies.{told, shared_by, reply_of};
 
 use crate::reading::{number, numbers, rule_named};
@@ -14,63 +14,69 @@ pub enum Reply {
     /// The line asks for nothing.
     Silence,
     Malformed,
-    /// The number of the refusal.
-    Refused(u8),
+    Refused(Fault),
     /// Cents, one share for each weight.
     Shares(Vec<u64>),
 }
 
 // Shares the amount, which the rule may refuse.
-fn shared(heap: Global, rule: Choice, amount: u64, weights: &Vec<u64>) -> Result<Reply, AllocError>
-    ensures { IfOk result (λ reply. told reply ≡ shared_by rule amount weights.now.items) }
+fn shared(heap: Global, rule: Choice, amount: u64, weights: &[u64]) -> Result<Reply, AllocError>
+    ensures { IfOk result (λ reply. told reply ≡ shared_by rule amount weights.now) }
 {
     let mut shares = vec![in heap; 0u64; weights.len()]?;
-    match rule.share(amount, weights.as_slice(), shares.as_mut_slice()) {
+    match rule.share(amount, weights, shares.as_mut_slice()) {
         Ok(()) => Ok(Reply::Shares(shares)),
-        Err(fault) => Ok(Reply::Refused(fault.number())),
+        Err(fault) => Ok(Reply::Refused(fault)),
     }
 }
 
-// A line asks for nothing if its first word is missing or begins with a #.
-fn is_silent(name: &[u8]) -> bool
-    ensures { result ≡ (length name.now == 0 || slice_index name.now 0 == 35) }
+// Whether a line with this first word is passed over.
+fn is_comment(name: &[u8]) -> bool
+    ensures { result ≡ (slice_index name.now 0 == 35) }
 {
-    name.is_empty() || name[0] == b'#'
+    name.first() == Some(&b'#')
 }
 
 /// The answer to one line of text.
 pub fn reply_to(heap: Global, line: &[u8]) -> Result<Reply, AllocError>
     ensures { IfOk result (λ reply. told reply ≡ reply_of line.now) }
 {
-    let (name, rest) = next_word(line);
-    if is_silent(name) {
+    let Some((name, rest)) = next_word(line) else {
+        return Ok(Reply::Silence);
+    };
+    if is_comment(name) {
         return Ok(Reply::Silence);
     }
     let Some(rule) = rule_named(name) else {
         return Ok(Reply::Malformed);
     };
-    let (word, rest) = next_word(rest);
+    let Some((word, rest)) = next_word(rest) else {
+        return Ok(Reply::Malformed);
+    };
     let Some(amount) = number(word) else {
         return Ok(Reply::Malformed);
     };
     let Some(weights) = numbers(heap, rest)? else {
         return Ok(Reply::Malformed);
     };
-    shared(heap, rule, amount, &weights)
+    shared(heap, rule, amount, weights.as_slice())
 }
 
 impl fmt::Display for Reply {
     fn fmt<W: fmt::Write>(&self, f: &mut fmt::Formatter<W>) -> fmt::Result {
         match self {
             Reply::Silence => Ok(()),
-            Reply::Malformed => write!(f, "malformed"),
-            Reply::Refused(number) => write!(f, "refused {number}"),
+            Reply::Malformed => f.write_str("malformed"),
+            Reply::Refused(fault) => {
+                let number = fault.number();
+                write!(f, "refused {number}")
+            }
             Reply::Shares(shares) => {
-                for (i, share) in shares.iter().enumerate() {
-                    if i > 0 {
-                        write!(f, " ")?;
+                if let Some((first, rest)) = shares.split_first() {
+                    write!(f, "{first}")?;
+                    for share in rest {
+                        write!(f, " {share}")?;
                     }
-                    write!(f, "{share}")?;
                 }
                 Ok(())
             }

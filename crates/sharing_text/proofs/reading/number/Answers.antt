@@ -8,14 +8,14 @@ use Rattle.sharing_text.specs.Request.{is_digit, capped}
 use Rattle.sharing_text.proofs.Numbers.{no_number, whole_number, digit_more}
 use Rattle.sharing_text.proofs.reading.number.Goals as goal
 
-pub returns-then-not-is_digit : goal.returns-then-not-is_digit
-returns-then-not-is_digit c =
-    let none = prefix_len-drop_no is_digit c.args.word.now c.loop-byte.byte-index 0 c.loop-byte-test.true (sym c.if-not-is_digit.ensures.value) in
+pub returns-then-not-is_ascii_digit : goal.returns-then-not-is_ascii_digit
+returns-then-not-is_ascii_digit c =
+    let none = prefix_len-drop_no is_digit c.args.word.now c.loop-byte.byte-index 0 c.loop-byte-test.true (sym c.is_ascii_digit.ensures.value ∙ c.if-not-is_ascii_digit.true) in
     sym (ap (option_map capped) (no_number c.args.word.now (omega (arith, c.loop-byte.invariant.1))))
 
 pub loop-byte-preserved : goal.loop-byte-preserved
 loop-byte-preserved c =
-    let one = prefix_len-drop_yes is_digit c.args.word.now c.loop-byte.byte-index 0 c.loop-byte-test.true (sym c.if-not-is_digit.ensures.value) in (
+    let one = prefix_len-drop_yes is_digit c.args.word.now c.loop-byte.byte-index 0 c.loop-byte-test.true (sym c.is_ascii_digit.ensures.value ∙ c.if-not-is_ascii_digit.false) in (
       digit_more c.args.word.now c.loop-byte.byte-index c.loop-byte.value c.saturating_mul.result c.from.result c.saturating_add-value.result c.loop-byte-test.true c.loop-byte.invariant.0 c.saturating_mul.ensures c.from.ensures c.saturating_add-value.ensures,
       omega (arith, c.loop-byte.invariant.1),
     )

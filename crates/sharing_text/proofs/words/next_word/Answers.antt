@@ -1,20 +1,31 @@
-use Rattle.std.proofs.Common.{◌≡◌, true, false, take, drop, ap, ◌∙◌, arith}
-use Rattle.std.specs.List.{prefix_len}
-use Rattle.std.proofs.lemmas.List.Sums.{prefix_len-le-length}
-use Rattle.sharing_text.specs.Words.{is_blank, past_blanks}
+use Rattle.std.proofs.Common.{◌≡◌, true, false, length, take, drop, ap, sym, ◌∙◌, rules}
+use borrow.Author.Tests.{tests, eqb-true, eqb-false}
+use Rattle.std.proofs.lemmas.Iterator.{YieldsList-from_slice}
+use Rattle.std.proofs.lemmas.Iterator.Search.{position_from_yields_List}
+use Rattle.sharing_text.specs.Words.{is_blank}
+use Rattle.sharing_text.proofs.Answering.{some_of}
+use Rattle.sharing_text.proofs.Cuts.{cut_word, cut_rest, first_word, no_word}
 use Rattle.sharing_text.proofs.words.next_word.Goals as goal
 
-pub split_at-requires : goal.split_at-requires
-split_at-requires c = let most = prefix_len-le-length (is_blank true) c.args.text.now in omega (arith, c.run_of-start.ensures)
+pub returns-then-is_empty-clause-none : goal.returns-then-is_empty-clause-none
+returns-then-is_empty-clause-none c =
+    let text = c.args.text.now in
+    let from = c.split_at.result.1.now in
+    let start = position_from_yields_List (is_blank false) _ _ c.position-start.result c.position-start.ensures.ran (YieldsList-from_slice text (cc)) (λ x b q k. search (rules, tests)) in
+    let end = position_from_yields_List (is_blank true) _ _ c.position-end.result c.position-end.ensures.ran (YieldsList-from_slice from (cc)) (λ x b q k. search (rules, tests)) in
+    let past = c.split_at.ensures.back ∙ ap (λ n. drop n text) c.unwrap_or.ensures in
+    let word = cut_word text from c.position-start.result c.position-end.result start past end c.split_at-2.result.0.now (c.split_at-2.ensures.front ∙ ap (λ n. take n from) c.unwrap_or-2.ensures) in
+    let none : length c.split_at-2.result.0.now ≡ 0 = eqb-true _ 0 (sym c.if-is_empty.ensures) in
+    λ _. no_word text (ap length (sym word) ∙ none)
 
-pub split_at-requires-2 : goal.split_at-requires-2
-split_at-requires-2 c = let most = prefix_len-le-length (is_blank false) c.split_at.result.1.now in omega (arith, c.run_of-size.ensures)
-
-pub returns : goal.returns
-returns c =
-    let from : c.split_at.result.1.now ≡ past_blanks c.args.text.now = c.split_at.ensures.back ∙ ap (λ n. drop n c.args.text.now) c.run_of-start.ensures in
-    let size : c.run_of-size.result ≡ prefix_len (is_blank false) (past_blanks c.args.text.now) = c.run_of-size.ensures ∙ ap (prefix_len (is_blank false)) from in
-    record {
-      word = c.split_at-2.ensures.front ∙ ap (λ n. take n c.split_at.result.1.now) size ∙ ap (take (prefix_len (is_blank false) (past_blanks c.args.text.now))) from;
-      rest = c.split_at-2.ensures.back ∙ ap (λ n. drop n c.split_at.result.1.now) size ∙ ap (drop (prefix_len (is_blank false) (past_blanks c.args.text.now))) from;
-    }
+pub returns-else-is_empty-clause-first : goal.returns-else-is_empty-clause-first
+returns-else-is_empty-clause-first c =
+    let text = c.args.text.now in
+    let from = c.split_at.result.1.now in
+    let start = position_from_yields_List (is_blank false) _ _ c.position-start.result c.position-start.ensures.ran (YieldsList-from_slice text (cc)) (λ x b q k. search (rules, tests)) in
+    let end = position_from_yields_List (is_blank true) _ _ c.position-end.result c.position-end.ensures.ran (YieldsList-from_slice from (cc)) (λ x b q k. search (rules, tests)) in
+    let past = c.split_at.ensures.back ∙ ap (λ n. drop n text) c.unwrap_or.ensures in
+    let word = cut_word text from c.position-start.result c.position-end.result start past end c.split_at-2.result.0.now (c.split_at-2.ensures.front ∙ ap (λ n. take n from) c.unwrap_or-2.ensures) in
+    let rest = cut_rest text from c.position-start.result c.position-end.result start past end c.split_at-2.result.1.now (c.split_at-2.ensures.back ∙ ap (λ n. drop n from) c.unwrap_or-2.ensures) in
+    let some = some_of (length c.split_at-2.result.0.now) (eqb-false _ 0 (sym c.if-is_empty.ensures)) in
+    first_word text _ _ word rest some
