@@ -1,5 +1,5 @@
 -- A draft that is issued, and one that is withdrawn, on the lines of the parties.
-use Rattle.std.proofs.Common.{◌≡◌, ℕ, ◌+◌, true, List, map, length, replicate, vec_items, refl, sym, ap, ◌∙◌, subst, arith}
+use Rattle.std.proofs.Common.{◌≡◌, ℕ, ◌+◌, true, List, map, length, replicate, vec_items, sym, ap, ◌∙◌, subst, arith}
 use Rattle.std.specs.Vec.{with_items}
 use Rattle.std.proofs.lemmas.Bool.{cond-true, eq-eqb}
 use Rattle.std.proofs.lemmas.List.{length-map, with_items_is}

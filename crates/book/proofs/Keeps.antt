@@ -1,5 +1,5 @@
 -- Each change of a book keeps what holds of every book.
-use Rattle.std.proofs.Common.{◌≡◌, ℕ, zero, suc, ◌+◌, ◌-◌, ◌<◌, ◌≤◌, Bool, true, false, cond, ◌&&◌, eqb, leb, List, [], ◌∷◌, ◌++◌, map, length, get_or, set, replicate, Some, None, sum, Option, sym, refl, ap, ◌∙◌, subst, ⊎_elim, arith}
+use Rattle.std.proofs.Common.{◌≡◌, ℕ, zero, suc, ◌+◌, ◌-◌, ◌<◌, ◌≤◌, Bool, true, false, cond, ◌&&◌, eqb, leb, List, [], ◌∷◌, ◌++◌, map, length, get_or, set, replicate, Some, None, sum, sym, refl, ap, ◌∙◌, subst, ⊎_elim, arith}
 use Rattle.std.proofs.lemmas.List.FromFn.{length-map-range_with_len, get_or-map-range_with_len, map-range_with_len_more}
 use Rattle.std.proofs.lemmas.List.{map_push, length-map, length-set, length-replicate, get_or-set_same, get_or-set_other}
 use Rattle.std.proofs.lemmas.List.Sums.{sum_by-set, get_or-le-sum_by, sum_by-cons}
@@ -15,7 +15,7 @@ use Rattle.book.specs.declared.connection.Connection.{Connection}
 use Rattle.book.specs.declared.stage.Stage.{Stage}
 use Rattle.book.specs.declared.stage.Stage.TheVariants.{Open, Drafted, Issued}
 use Rattle.book.specs.Model.{State, Accounts, Draft, is_open, is_drafted, is_issued, held, dues_on, credits_on, blank, own_bill, own_bills, new_book}
-use Rattle.book.specs.Sound.{Sound, Counted, Long, Bounded, Paid, Drawn, Even, Calm}
+use Rattle.book.specs.Sound.{Sound}
 use Rattle.book.specs.Steps.{accepted, step, appoint, nominate, appointed, nominated, connection_at, with_connection, with_allocation, with_cost, with_accounts, paying, paying_out, issuing, withdrawing}
 
 pub bounds : (n k : ℕ) → within n k ≡ true → (1 ≤ k) × (k ≤ n)

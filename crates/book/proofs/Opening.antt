@@ -7,7 +7,7 @@ use Rattle.book.specs.declared.connection.Connection.{Connection}
 use Rattle.book.specs.declared.line.Line.{Line}
 use Rattle.book.specs.declared.stage.Stage.TheVariants.{Open}
 use Rattle.book.specs.Journey.{Reaches}
-use Rattle.book.specs.Model.{State, new_book, state_of, notes_on, owing_on, owed_on, blank, own_bills}
+use Rattle.book.specs.Model.{state_of, notes_on, owing_on, owed_on, blank, own_bills}
 use Rattle.book.proofs.Lines.{no_line, all_alike}
 
 -- what is made is reached by no call

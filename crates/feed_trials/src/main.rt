@@ -52,6 +52,7 @@ impl Random {
     }
 
     fn shuffle(&mut self, pairs: &mut [(u8, u8)]) {
+        // By places, since it swaps two of them.
         for i in 1..pairs.len() {
             let j = (self.next() >> 33) as usize % (i + 1);
             pairs.swap(i, j);

@@ -1,4 +1,4 @@
-use Rattle.std.proofs.Common.{◌<◌, vec_items, refl, arith, rules}
+use Rattle.std.proofs.Common.{vec_items, refl, arith, rules}
 use Rattle.std.proofs.lemmas.List.{length-map}
 use Rattle.allocations.specs.Falls.{parts_of, broken_parts}
 use Rattle.allocations.specs.Parts.{listed, whole_parts}

@@ -1,6 +1,6 @@
-use Rattle.std.proofs.Common.{◌≡◌, ◌-◌, ℕ, set, Some, refl, ap, rules}
+use Rattle.std.proofs.Common.{◌≡◌, ◌-◌, refl, rules}
 use Rattle.book.specs.Model.{State}
-use Rattle.book.specs.Steps.{connect, with_connection, with_standing, step}
+use Rattle.book.specs.Steps.{connect, with_connection, step}
 use Rattle.book.specs.View.{view}
 use Rattle.book.proofs.Keeps.{connection_sound}
 use Rattle.book.proofs.Onward.{kept_as}

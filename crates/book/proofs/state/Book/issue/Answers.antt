@@ -1,9 +1,9 @@
-use Rattle.std.proofs.Common.{◌≡◌, true, vec_items, refl, sym, ap, ◌∙◌, rules}
+use Rattle.std.proofs.Common.{◌≡◌, true, refl, ap, ◌∙◌, rules}
 use Rattle.book.specs.Model.{is_drafted, notes_on, dues_on, credits_on}
 use Rattle.book.specs.Steps.{issue}
 use Rattle.book.specs.View.{view}
 use Rattle.book.proofs.Drafts.{as_many, lines_over, issued_well}
-use Rattle.book.proofs.Onward.{kept, stepped}
+use Rattle.book.proofs.Onward.{kept}
 use Rattle.book.proofs.state.Book.issue.Goals as goal
 
 pub invariant_of-self : goal.invariant_of-self

@@ -1,4 +1,4 @@
-use Rattle.std.proofs.Common.{length, get_or, refl, ◌∙◌, arith}
+use Rattle.std.proofs.Common.{get_or, refl, ◌∙◌, arith}
 use Rattle.std.proofs.Math.Seq.{map-set_same}
 use Rattle.book.specs.Model.{blank}
 use Rattle.book.proofs.Lines.{written_more, written_all}

@@ -1,4 +1,4 @@
-use Rattle.std.proofs.Common.{length, get_or, refl, ap, sym, ◌∙◌, arith}
+use Rattle.std.proofs.Common.{get_or, refl, ◌∙◌, arith}
 use Rattle.std.proofs.Math.Seq.{map-set_same}
 use Rattle.std.proofs.lemmas.List.{length-map}
 use Rattle.book.specs.Model.{notes_on, dues_on, credits_on}

@@ -1,5 +1,5 @@
 use Rattle.std.proofs.Common.{◌≡◌, ℕ, ◌<◌, get_or}
-use Rattle.book.specs.Model.{blank, dues_on, credits_on, notes_on, owing_on, owed_on}
+use Rattle.book.specs.Model.{dues_on, credits_on, notes_on, owing_on, owed_on}
 use Rattle.book.proofs.state.calls.make_owed.Given as goal
 
 abbrev pub invariant-loop-line : goal.invariant-loop-line

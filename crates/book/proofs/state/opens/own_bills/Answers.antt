@@ -1,4 +1,4 @@
-use Rattle.std.proofs.Common.{◌≡◌, ◌+◌, ◌-◌, map, vec_items, ap, ◌∙◌, arith, rules}
+use Rattle.std.proofs.Common.{map, vec_items, ap, ◌∙◌, arith}
 use Rattle.allocations.specs.Falls.{parts_of}
 use Rattle.book.specs.Model.{own_bills}
 use Rattle.book.proofs.Keeps.{own_bills_next}
