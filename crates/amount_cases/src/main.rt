@@ -21,9 +21,7 @@ const BEFORE: Note = Note {
 // What is printed of an answer.
 #[derive(Clone, Copy)]
 enum Outcome {
-    Amount(u64),
-    // The number of the refusal.
-    Refused(u8),
+    Answered(Result<u64, Fault>),
     // It was not refused, and the notes were written.
     Written,
 }
@@ -31,17 +29,13 @@ enum Outcome {
 impl fmt::Display for Outcome {
     fn fmt<W: fmt::Write>(&self, f: &mut fmt::Formatter<W>) -> fmt::Result {
         match self {
-            Outcome::Amount(amount) => write!(f, "{amount}"),
-            Outcome::Refused(number) => write!(f, "refused:{number}"),
-            Outcome::Written => write!(f, "written"),
+            Outcome::Answered(Ok(amount)) => write!(f, "{amount}"),
+            Outcome::Answered(Err(fault)) => {
+                let number = fault.number();
+                write!(f, "refused:{number}")
+            }
+            Outcome::Written => f.write_str("written"),
         }
-    }
-}
-
-fn told(answer: Result<u64, Fault>) -> Outcome {
-    match answer {
-        Ok(amount) => Outcome::Amount(amount),
-        Err(fault) => Outcome::Refused(fault.number()),
     }
 }
 
@@ -65,24 +59,21 @@ fn print_cents(rt: HostRuntime, name: &str, cents: &[u64]) -> io::Result<()> {
 fn print_interval(rt: HostRuntime) -> io::Result<()> {
     let rates = Rates::PUBLISHED;
     let worked = [
-        told(rates.tolerance(13_000_000)),
-        told(rates.charge(2_000_000, 195_000)),
-        told(rates.claim(2_000_000)),
+        rates.tolerance(13_000_000),
+        rates.charge(2_000_000, 195_000),
+        rates.claim(2_000_000),
     ];
     let limits = [
-        told(rates.tolerance(9_000_000_001)),
-        told(rates.charge(0, 9_000_000_001)),
-        told(rates.claim(9_000_000_000)),
+        rates.tolerance(9_000_000_001),
+        rates.charge(0, 9_000_000_001),
+        rates.claim(9_000_000_000),
     ];
-    print_line(rt, "interval", &worked)?;
-    print_line(rt, "limits", &limits)
+    print_line(rt, "interval", &worked.map(Outcome::Answered))?;
+    print_line(rt, "limits", &limits.map(Outcome::Answered))
 }
 
-fn dearest(ap: u64, app: u64, margin: u64) -> Outcome {
-    match Rates::new(ap, app, margin) {
-        Ok(rates) => told(rates.charge(9_000_000_000, 0)),
-        Err(fault) => told(Err(fault)),
-    }
+fn dearest(ap: u64, app: u64, margin: u64) -> Result<u64, Fault> {
+    Rates::new(ap, app, margin)?.charge(9_000_000_000, 0)
 }
 
 fn print_rates(rt: HostRuntime) -> io::Result<()> {
@@ -93,7 +84,7 @@ fn print_rates(rt: HostRuntime) -> io::Result<()> {
         dearest(0, 100_001, 0),
         dearest(0, 0, 1_001),
     ];
-    print_line(rt, "rates", &charges)
+    print_line(rt, "rates", &charges.map(Outcome::Answered))
 }
 
 // Charges shared over claims that are more.
@@ -107,11 +98,8 @@ fn part(payer: u8, thousandths: u16) -> Part {
     Part { payer, thousandths }
 }
 
-fn fallen(parts: &[Part], party: u8) -> Outcome {
-    match Allocation::new(parts) {
-        Ok(allocation) => told(allocation.falls(10, party)),
-        Err(fault) => told(Err(fault)),
-    }
+fn fallen(parts: &[Part], party: u8) -> Result<u64, Fault> {
+    Allocation::new(parts)?.falls(10, party)
 }
 
 // Ten cents over four whole parts; then parts that are none, five, not rising, with nothing, and of 66,536 thousandths.
@@ -126,7 +114,7 @@ fn print_parts(rt: HostRuntime) -> io::Result<()> {
         fallen(&[part(1, 0), part(2, 1_000)], 2),
         fallen(&[part(1, 65_000), part(2, 1_536)], 2),
     ];
-    print_line(rt, "parts", &falls)
+    print_line(rt, "parts", &falls.map(Outcome::Answered))
 }
 
 // Two intervals of three points, in Wh, and tables of two points.
@@ -213,7 +201,7 @@ fn settle(case: &Case, notes: &mut [Note]) -> Result<u64, Fault> {
 
 fn print_run(rt: HostRuntime, name: &str, case: &Case) -> io::Result<()> {
     let mut notes = [BEFORE; 3];
-    let held = told(settle(case, &mut notes));
+    let held = Outcome::Answered(settle(case, &mut notes));
     print_line(rt, name, &[held])?;
     for note in &notes {
         print_cents(rt, " ", &[note.share, note.charge, note.due, note.credit])?;
@@ -263,9 +251,9 @@ fn print_runs(rt: HostRuntime) -> io::Result<()> {
 // What is answered where the notes stay as they were.
 fn refusal(case: &Case) -> Outcome {
     let mut notes = [BEFORE; 3];
-    let answer = told(settle(case, &mut notes));
+    let answer = settle(case, &mut notes);
     if notes[2].due == BEFORE.due {
-        answer
+        Outcome::Answered(answer)
     } else {
         Outcome::Written
     }

@@ -1,2 +1,3 @@
 pub mod Prices
 pub mod Bounds
+pub mod Intervals
