@@ -15,8 +15,13 @@ use Rattle.book.specs.declared.connection.Connection.{Connection}
 use Rattle.book.specs.declared.stage.Stage.{Stage}
 use Rattle.book.specs.declared.stage.Stage.TheVariants.{Open, Drafted, Issued}
 use Rattle.book.specs.Model.{State, Accounts, Draft, is_open, is_drafted, is_issued, held, dues_on, credits_on, blank, own_bill, own_bills, new_book}
-use Rattle.book.specs.Sound.{Sound}
+use Rattle.book.specs.Journey.{Came}
+use Rattle.book.specs.Sound.{Sound, Counted, Long, Bounded, Paid, Drawn, Even, Calm}
 use Rattle.book.specs.Steps.{accepted, step, appoint, nominate, appointed, nominated, connection_at, with_connection, with_allocation, with_cost, with_accounts, paying, paying_out, issuing, withdrawing}
+
+-- what holds of every book, fact by fact
+pub ghosts : (s : State) → Sound s → Came s → record { counted : Counted s; long : Long s; bounded : Bounded s; paid : Paid s; drawn : Drawn s; even : Even s; calm : Calm s; came : Came s }
+ghosts s h e = record { counted = h.counted; long = h.long; bounded = h.bounded; paid = h.paid; drawn = h.drawn; even = h.even; calm = h.calm; came = e }
 
 pub bounds : (n k : ℕ) → within n k ≡ true → (1 ≤ k) × (k ≤ n)
 bounds n k e = let p = and_parts (leb 1 k) (leb k n) e in (leb-true 1 k p.0, leb-true k n p.1)
