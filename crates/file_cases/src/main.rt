@@ -10,6 +10,7 @@ use anyhow::anyhow;
 use feeds::Feed;
 use meters::{FileFeed, read_meter};
 use notices::{Notice, read_notice, write_notice};
+use std::alloc::Global;
 use std::io;
 use std::io::Print;
 
@@ -89,6 +90,17 @@ fn allocate_case(rt: &impl Print, bytes: &[u8]) -> io::Result<()> {
     show_written(rt, &notice, &mut out[..room])
 }
 
+/// The bytes that lower-case digits write, two to a byte; one that is left over writes none.
+fn bytes_of(heap: Global, text: &str) -> anyhow::Result<Vec<u8>> {
+    let digits = text.as_bytes();
+    let is_digit = |c: &u8| matches!(*c, b'0'..=b'9' | b'a'..=b'f');
+    if !digits.iter().all(is_digit) {
+        return Err(anyhow!("not hexadecimal"));
+    }
+    let pairs = digits.len() / 2;
+    Ok(hex::decode(heap, &digits[..2 * pairs])?)
+}
+
 fn case(rt: &HostRuntime, line: &str) -> anyhow::Result<()> {
     let Some((word, text)) = line.split_once(' ') else {
         return Ok(());
@@ -97,7 +109,7 @@ fn case(rt: &HostRuntime, line: &str) -> anyhow::Result<()> {
         println!(rt; "{line}")?;
         return Ok(());
     }
-    let bytes = hex::decode(rt.alloc(), text)?;
+    let bytes = bytes_of(rt.alloc(), text)?;
     match word {
         "notice" => notice_case(rt, &bytes)?,
         "meter" => meter_case(rt, &bytes)?,
