@@ -13,6 +13,7 @@ const MOST_COST: u64 = 1_000_000_000;
 /// What a run is settled on, besides rates, feeds and rule. Parties and points are numbered from 1.
 #[derive(Clone, Copy)]
 pub struct Standing<'a> {
+    // Two lists of the points, not one of pairs: a standing whose lists differ in length is refused, which callers know.
     /// The nominee of each point.
     pub nominees: &'a [u8],
     /// The nominator of each point.

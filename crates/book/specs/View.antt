@@ -7,6 +7,7 @@ use Rattle.tables.specs.Table.{within}
 use Rattle.book.specs.declared.account.Account.{Account}
 use Rattle.book.specs.declared.claim.Claim.{Claim}
 use Rattle.book.specs.declared.claim.Unspent.{Unspent}
+use Rattle.book.specs.declared.line.Line.{Line}
 use Rattle.book.specs.declared.state.Book.{Book}
 use Rattle.book.specs.declared.state.opens.Unmade.{Unmade}
 use Rattle.book.specs.declared.state.opens.Unmade.TheVariants.{Refused, NoMemory}
@@ -54,6 +55,10 @@ abbrev pub Opened : ℕ → ℕ → Result Book Unmade → Type 0
 Opened parties points (Ok b) = Reaches parties points (view b) []
 Opened parties points (Err (Refused f)) = ((within 32 parties && within 32 points) ≡ false) × (f ≡ book_fault because.OutOfRange)
 Opened parties points (Err NoMemory) = (within 32 parties && within 32 points) ≡ true
+
+-- What is shown of a line.
+abbrev pub account_on : Line → Account
+account_on line = record { share = line.note.share; charge = line.note.charge; due = line.note.due; credit = line.note.credit; owing = line.owing; owed = line.owed }
 
 -- What is shown of the party at a place, from 0.
 abbrev pub account_at : State → ℕ → Account

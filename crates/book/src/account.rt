@@ -1,4 +1,8 @@
 // What the book shows of a party.
+ghost use Rattle.std.specs.Prelude.{◌≡◌};
+ghost use Rattle.book.specs.View.{account_on};
+
+use crate::line::Line;
 
 /// A party's note, and what is outstanding of it, in cents.
 #[derive(Clone, Copy, PartialEq, Eq, Debug)]
@@ -15,4 +19,20 @@ pub struct Account {
     pub owing: u64,
     /// What is left to pay out of its credit.
     pub owed: u64,
+}
+
+impl From<Line> for Account {
+    ghost from_gives = { λ line account. account ≡ account_on line };
+
+    fn from(line: Line) -> Account {
+        let Line { note, owing, owed } = line;
+        Account {
+            share: note.share,
+            charge: note.charge,
+            due: note.due,
+            credit: note.credit,
+            owing,
+            owed,
+        }
+    }
 }

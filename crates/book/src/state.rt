@@ -20,11 +20,12 @@ mod questions;
 #[derive(Drop)]
 pub struct Book {
     stage: Stage,
+    // How many parties and points there are, as the calls number them; each list is as long.
     parties: u8,
     points: u8,
     // One for each point, in number order; a point without user has none.
     connections: Vec<Option<Connection>>,
-    // One for each party, in number order. A run takes them as a list of their own.
+    // One for each party, in number order, beside the lines, since a run takes them as a list of their own.
     allocations: Vec<Allocation>,
     // In cents.
     cost: u64,

@@ -16,60 +16,60 @@ use std::fmt;
 #[derive(Clone, Copy, PartialEq, Eq, Debug)]
 pub enum BytesCause {
     /// There are fewer bytes than the record has.
-    TooFewBytes,
+    TooFewBytes = 20,
     /// The length is below that of a header, or wrong for the kind.
-    WrongLength,
+    WrongLength = 21,
 }
 
 /// What is wrong with a meter file or with a list of readings.
 #[derive(Clone, Copy, PartialEq, Eq, Debug)]
 pub enum MeterCause {
     /// This kind of record is not expected here.
-    UnexpectedKind,
+    UnexpectedKind = 22,
     /// A value or the size of a list is out of range.
-    ValueOutOfRange,
+    ValueOutOfRange = 23,
 }
 
 /// What is wrong with a notice.
 #[derive(Clone, Copy, PartialEq, Eq, Debug)]
 pub enum NoticeCause {
     /// This kind of record is no notice.
-    UnexpectedKind,
+    UnexpectedKind = 22,
     /// The buffer to write into is too short.
-    BufferTooShort,
+    BufferTooShort = 24,
 }
 
 /// What the book refuses, and with it the feeds, the sharing rules and the rates.
 #[derive(Clone, Copy, PartialEq, Eq, Debug)]
 pub enum BookCause {
     /// The book is in another state.
-    WrongState,
+    WrongState = 1,
     /// A party, a point, an interval, or a count of these is out of range.
-    OutOfRange,
+    OutOfRange = 2,
     /// The sender is not entitled.
-    NotEntitled,
+    NotEntitled = 3,
     /// The parts of an allocation break their rule.
-    BrokenParts,
+    BrokenParts = 4,
     /// A cost is above its limit; a payment or payout is 0 or above what is outstanding.
-    WrongAmount,
+    WrongAmount = 5,
     /// A feed does not fit the book, or the month is too long.
-    UnfitFeed,
+    UnfitFeed = 6,
     /// A point has no user.
-    NoUser,
+    NoUser = 7,
     /// The swings, the charges or the claims together pass their limit.
-    TotalTooLarge,
+    TotalTooLarge = 8,
     /// There is a cost, and every swing is 0.
-    NoSwing,
+    NoSwing = 9,
     /// A payout is above the purse.
-    PurseTooSmall,
+    PurseTooSmall = 10,
     /// The claim's number is not the draft's.
-    OtherRun,
+    OtherRun = 11,
     /// All runs are begun.
-    RunsUsedUp,
+    RunsUsedUp = 12,
     /// A sharing rule is asked outside its domain.
-    OutsideDomain,
+    OutsideDomain = 13,
     /// The rates are out of range.
-    WrongRates,
+    WrongRates = 14,
 }
 
 /// The layer that refused, with its own cause.
@@ -89,42 +89,16 @@ pub struct Fault {
     pub at: usize,
 }
 
-impl BookCause {
-    fn number(self) -> u8
-        ensures { result ≡ number_of (Layer.Book self) }
-    {
-        match self {
-            BookCause::WrongState => 1,
-            BookCause::OutOfRange => 2,
-            BookCause::NotEntitled => 3,
-            BookCause::BrokenParts => 4,
-            BookCause::WrongAmount => 5,
-            BookCause::UnfitFeed => 6,
-            BookCause::NoUser => 7,
-            BookCause::TotalTooLarge => 8,
-            BookCause::NoSwing => 9,
-            BookCause::PurseTooSmall => 10,
-            BookCause::OtherRun => 11,
-            BookCause::RunsUsedUp => 12,
-            BookCause::OutsideDomain => 13,
-            BookCause::WrongRates => 14,
-        }
-    }
-}
-
 impl Layer {
     /// The number by which the cause is known.
     pub fn number(self) -> u8
         ensures { result ≡ number_of self }
     {
         match self {
-            Layer::Bytes(BytesCause::TooFewBytes) => 20,
-            Layer::Bytes(BytesCause::WrongLength) => 21,
-            Layer::Meter(MeterCause::UnexpectedKind) => 22,
-            Layer::Meter(MeterCause::ValueOutOfRange) => 23,
-            Layer::Notice(NoticeCause::UnexpectedKind) => 22,
-            Layer::Notice(NoticeCause::BufferTooShort) => 24,
-            Layer::Book(cause) => cause.number(),
+            Layer::Bytes(cause) => cause as u8,
+            Layer::Meter(cause) => cause as u8,
+            Layer::Notice(cause) => cause as u8,
+            Layer::Book(cause) => cause as u8,
         }
     }
 

@@ -10,7 +10,8 @@ pub(crate) const PART: usize = 3;
 /// The most parts that a notice holds.
 pub(crate) const MOST_PARTS: usize = 4;
 
-/// A payer and the thousandths of the bill that it pays.
+/// A payer and the thousandths of the bill that it pays. Its own type, as that of `allocations` is, so that
+/// neither crate needs the other.
 #[derive(Clone, Copy, PartialEq, Eq, Debug)]
 pub struct Part {
     pub payer: u8,

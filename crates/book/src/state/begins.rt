@@ -30,7 +30,7 @@ fn are_all_connected(connections: &[Option<Connection>]) -> bool
     connections.iter().all(|connection| connection.is_some())
 }
 
-// The nominee and the nominator of each point, 0 where it has no user.
+// The nominee and the nominator of each point, 0 where it has no user: so a standing counts nobody.
 fn answerable(
     connections: &[Option<Connection>],
 ) -> (ArrayVec<u8, MOST_POINTS>, ArrayVec<u8, MOST_POINTS>)
@@ -111,6 +111,7 @@ impl Book {
         ensures { Stepped self.old self.new (begin rates.now (M.Feed.table month.now) (F.Feed.table reference.now) (R.Rule.meaning rule.now)) (told_run result) }
     {
         self.expect_clear(month, reference)?;
+        // On the stack, since no call on a book allocates.
         let mut notes = [BLANK_NOTE; MOST_PARTIES];
         let notes = &mut notes[..usize::from(self.parties)];
         let excess = self.work_out(rates, month, reference, rule, notes)?;

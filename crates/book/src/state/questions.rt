@@ -34,15 +34,8 @@ impl Book {
         if self.stage == Stage::Open {
             return Err(BookCause::WrongState.into());
         }
-        let line = self.lines[self.party_place(party)?];
-        Ok(Account {
-            share: line.note.share,
-            charge: line.note.charge,
-            due: line.note.due,
-            credit: line.note.credit,
-            owing: line.owing,
-            owed: line.owed,
-        })
+        let place = self.party_place(party)?;
+        Ok(self.lines[place].into())
     }
 
     /// Money received from payers and not yet paid out.
