@@ -6,7 +6,8 @@ use arrayvec::ArrayVec;
 /// The most parties, and the most points, that a grid has.
 pub(crate) const MOST_PLACES: usize = 32;
 
-/// A number for each place. It takes no heap.
+/// A number for each place. It takes no heap. A run has several side by side, not one of all amounts, since a
+/// sharing rule takes a plain list and fills another.
 pub(crate) type Numbers = ArrayVec<u64, MOST_PLACES>;
 
 // What is told of each number from 1 on, of so many.

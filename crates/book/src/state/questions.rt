@@ -55,6 +55,8 @@ impl Book {
         }
     }
 
+    // Two questions of one line each, which one function of the field would not make plainer.
+
     /// What all payers together owe.
     pub fn payers_owe(&self) -> u64
         ensures { result ≡ sum (view self.now).accounts.owing }
