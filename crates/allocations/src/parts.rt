@@ -7,7 +7,7 @@ ghost use Rattle.sharing.specs.Weights.{sum_of};
 use crate::allocation::own_amount;
 
 /// One part of a bill: who pays it, and how many thousandths of the bill it is.
-#[derive(Clone, Copy)]
+#[derive(Clone, Copy, PartialEq, Eq, Debug)]
 pub struct Part {
     pub payer: u8,
     pub thousandths: u16,

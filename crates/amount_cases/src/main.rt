@@ -39,18 +39,10 @@ impl fmt::Display for Outcome {
     }
 }
 
-fn print_line(rt: HostRuntime, name: &str, answers: &[Outcome]) -> io::Result<()> {
+fn print_line<T: fmt::Display>(rt: HostRuntime, name: &str, answers: &[T]) -> io::Result<()> {
     print!(rt; "{name}")?;
     for answer in answers {
         print!(rt; " {answer}")?;
-    }
-    println!(rt; "")
-}
-
-fn print_cents(rt: HostRuntime, name: &str, cents: &[u64]) -> io::Result<()> {
-    print!(rt; "{name}")?;
-    for amount in cents {
-        print!(rt; " {amount}")?;
     }
     println!(rt; "")
 }
@@ -91,7 +83,7 @@ fn print_rates(rt: HostRuntime) -> io::Result<()> {
 fn print_shortfall(rt: HostRuntime) -> io::Result<()> {
     let mut credits = [0; 2];
     let _ = ByWeight.share(2_402_400, &[3_712_800, 2_016_000], &mut credits);
-    print_cents(rt, "shortfall", &credits)
+    print_line(rt, "shortfall", &credits)
 }
 
 fn part(payer: u8, thousandths: u16) -> Part {
@@ -204,7 +196,7 @@ fn print_run(rt: HostRuntime, name: &str, case: &Case) -> io::Result<()> {
     let held = Outcome::Answered(settle(case, &mut notes));
     print_line(rt, name, &[held])?;
     for note in &notes {
-        print_cents(rt, " ", &[note.share, note.charge, note.due, note.credit])?;
+        print_line(rt, " ", &[note.share, note.charge, note.due, note.credit])?;
     }
     Ok(())
 }
@@ -216,12 +208,13 @@ fn shared(
     provider: Option<u8>,
     nominators: &'static [u8],
 ) -> Case<'static> {
-    let mut case = BY_HAND;
-    case.rule = rule;
-    case.cost = cost;
-    case.provider = provider;
-    case.nominators = nominators;
-    case
+    Case {
+        rule,
+        cost,
+        provider,
+        nominators,
+        ..BY_HAND
+    }
 }
 
 // Two points on these tables, at the largest prices.
@@ -230,13 +223,14 @@ fn dear(
     reference: &'static [(u64, u64)],
     cost: u64,
 ) -> Case<'static> {
-    let mut case = OF_TWO;
-    case.ap = 100_000;
-    case.app = 100_000;
-    case.month = month;
-    case.reference = reference;
-    case.cost = cost;
-    case
+    Case {
+        ap: 100_000,
+        app: 100_000,
+        month,
+        reference,
+        cost,
+        ..OF_TWO
+    }
 }
 
 fn print_runs(rt: HostRuntime) -> io::Result<()> {
@@ -262,9 +256,11 @@ fn refusal(case: &Case) -> Outcome {
 // A provider that is no party, a cost without one, a nominator too few, a cost above its limit, a feed
 // that does not fit, weights of nobody.
 fn print_refusals(rt: HostRuntime) -> io::Result<()> {
-    let mut unfit = BY_HAND;
-    unfit.nominees = &[2, 3];
-    unfit.nominators = &[1, 3];
+    let unfit = Case {
+        nominees: &[2, 3],
+        nominators: &[1, 3],
+        ..BY_HAND
+    };
     let numbers = [
         refusal(&shared(Choice::Weight, 1, Some(4), &[1, 2, 3])),
         refusal(&shared(Choice::Weight, 1, None, &[1, 2, 3])),

@@ -10,7 +10,8 @@ pub(crate) const MOST_PLACES: usize = 32;
 /// sharing rule takes a plain list and fills another.
 pub(crate) type Numbers = ArrayVec<u64, MOST_PLACES>;
 
-// What is told of each number from 1 on, of so many.
+// What is told of each number from 1 on, of so many. That they are at most 32 is asked by each function that takes a
+// count: a type of count would be made at one place, from the length of the notes, and be no plainer.
 pub(crate) fn numbered<F: Fn(u8) -> u64>(count: u8, tell: F) -> Numbers
     requires few { count ≤ 32 }
     requires tells { (number : ℕ) → 1 ≤ number → number ≤ count → F.pre tell number }

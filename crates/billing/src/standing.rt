@@ -22,6 +22,7 @@ pub struct Standing<'a> {
     pub allocations: &'a [Allocation],
     /// The FCESS cost in cents.
     pub cost: u64,
+    // An option in which 0 is nobody too, as it is in the lists: a standing that says so was always taken.
     /// Who receives the cost; none only where the cost is 0.
     pub provider: Option<u8>,
 }

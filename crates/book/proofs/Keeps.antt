@@ -43,9 +43,6 @@ held_none s e = cond-false (is_issued s.stage) s.draft.excess 0 e
 pub lower : (xs : List ℕ) (i c v : ℕ) → i < length xs → v ≡ get_or xs i 0 → c ≤ v → sum (set xs i (v - c)) + c ≡ sum xs
 lower xs i c v l e h = omega (arith, sum_by-set (λ x. x) xs i (v - c) 0 l)
 
-pub one_of_sum : (xs : List ℕ) (i : ℕ) → i < length xs → get_or xs i 0 ≤ sum xs
-one_of_sum xs i l = get_or-le-sum_by (λ x. x) xs i 0 l
-
 pub connection_sound : (s : State) → Sound s → (point : ℕ) (c : Connection) → Sound (with_connection s point c)
 connection_sound s h point c = record {
   counted = h.counted;

@@ -10,8 +10,9 @@ pub(crate) const PART: usize = 3;
 /// The most parts that a notice holds.
 pub(crate) const MOST_PARTS: usize = 4;
 
-/// A payer and the thousandths of the bill that it pays. Its own type, as that of `allocations` is, so that
-/// neither crate needs the other.
+// Not the type of `allocations`: it is a rule here that files and amounts stand apart, each for its own buyer.
+
+/// A payer and the thousandths of the bill that it pays.
 #[derive(Clone, Copy, PartialEq, Eq, Debug)]
 pub struct Part {
     pub payer: u8,

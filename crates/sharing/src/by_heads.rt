@@ -23,7 +23,7 @@ impl Rule for ByHeads {
 
     fn share(&self, amount: u64, weights: &[u64], shares: &mut [u64]) -> Result<(), Fault> {
         total_in_domain(amount, weights, shares.len())?;
-        // An array and its front, since no rule allocates and this crate stands on `faults` alone.
+        // An array and its front: it is a rule here that sharing allocates nothing and stands on `faults` alone.
         let mut heads = [0; MOST_PLACES];
         let heads = &mut heads[..weights.len()];
         write_heads(weights, heads);

@@ -1,5 +1,5 @@
 -- The answer to a line.
-use Rattle.std.specs.Prelude.{ℕ, cond, List, [], ◌∷◌, Some, None, vec_items, Option, ◌==◌, slice_index}
+use Rattle.std.specs.Prelude.{◌≡◌, ℕ, cond, List, [], ◌∷◌, Some, None, vec_items, Option, ◌==◌, slice_index}
 use Rattle.faults.specs.Numbers.{number_of as fault-number}
 use Rattle.sharing.specs.Chosen.{chosen}
 use Rattle.sharing.specs.Domain.{domain, outside_domain}
@@ -21,6 +21,13 @@ told code.Silence = silence
 told code.Malformed = malformed
 told (code.Refused fault) = refused (fault-number fault.layer)
 told (code.Shares v) = shares (vec_items v)
+
+-- What is refused is asked outside the domain.
+abbrev pub RefusesOutside : Reply → Type 0
+RefusesOutside code.Silence = Unit {0}
+RefusesOutside code.Malformed = Unit {0}
+RefusesOutside (code.Refused fault) = fault ≡ outside_domain
+RefusesOutside (code.Shares v) = Unit {0}
 
 -- In its domain a rule shares; outside it refuses, with 13.
 abbrev pub shared_by : Choice → ℕ → List ℕ → Answer

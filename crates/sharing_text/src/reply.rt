@@ -1,6 +1,6 @@
 // The answer to a line.
 ghost use Rattle.std.specs.Prelude.{◌≡◌, ◌==◌, IfOk, slice_index};
-ghost use Rattle.sharing_text.specs.Replies.{told, shared_by, reply_of};
+ghost use Rattle.sharing_text.specs.Replies.{told, RefusesOutside, shared_by, reply_of};
 
 use crate::reading::{number, numbers, rule_named};
 use crate::words::next_word;
@@ -21,7 +21,8 @@ pub enum Reply {
 
 // Shares the amount, which the rule may refuse.
 fn shared(heap: Global, rule: Choice, amount: u64, weights: &[u64]) -> Result<Reply, AllocError>
-    ensures { IfOk result (λ reply. told reply ≡ shared_by rule amount weights.now) }
+    ensures answers { IfOk result (λ reply. told reply ≡ shared_by rule amount weights.now) }
+    ensures refusal { IfOk result RefusesOutside }
 {
     let mut shares = vec![in heap; 0u64; weights.len()]?;
     match rule.share(amount, weights, shares.as_mut_slice()) {
@@ -39,7 +40,8 @@ fn is_comment(name: &[u8]) -> bool
 
 /// The answer to one line of text.
 pub fn reply_to(heap: Global, line: &[u8]) -> Result<Reply, AllocError>
-    ensures { IfOk result (λ reply. told reply ≡ reply_of line.now) }
+    ensures answers { IfOk result (λ reply. told reply ≡ reply_of line.now) }
+    ensures refusal { IfOk result RefusesOutside }
 {
     let Some((name, rest)) = next_word(line) else {
         return Ok(Reply::Silence);

@@ -20,9 +20,8 @@ use sharing::Rule;
 
 const MOST_RUNS: u16 = 1_000;
 
-const MOST_POINTS: usize = 32;
-
-const MOST_PARTIES: usize = 32;
+// The most points, and the most parties.
+const MOST_PLACES: usize = 32;
 
 fn are_all_connected(connections: &[Option<Connection>]) -> bool
     ensures { result ≡ all_connected connections.now }
@@ -33,7 +32,7 @@ fn are_all_connected(connections: &[Option<Connection>]) -> bool
 // The nominee and the nominator of each point, 0 where it has no user: so a standing counts nobody.
 fn answerable(
     connections: &[Option<Connection>],
-) -> (ArrayVec<u8, MOST_POINTS>, ArrayVec<u8, MOST_POINTS>)
+) -> (ArrayVec<u8, MOST_PLACES>, ArrayVec<u8, MOST_PLACES>)
     requires { length connections.now ≤ 32 }
     ensures nominees { result.0.items ≡ map nominee_number connections.now }
     ensures nominators { result.1.items ≡ map nominator_number connections.now }
@@ -112,7 +111,7 @@ impl Book {
     {
         self.expect_clear(month, reference)?;
         // On the stack, since no call on a book allocates.
-        let mut notes = [BLANK_NOTE; MOST_PARTIES];
+        let mut notes = [BLANK_NOTE; MOST_PLACES];
         let notes = &mut notes[..usize::from(self.parties)];
         let excess = self.work_out(rates, month, reference, rule, notes)?;
         write_notes(self.lines.as_mut_slice(), notes);

@@ -28,6 +28,9 @@ impl Book {
         Ok(())
     }
 
+    // This call and the next share their checks below; who is entitled and which field is set differ, and a function of
+    // two closures for them would be no plainer.
+
     /// The point's user, who sends this, names its nominator.
     pub fn appoint(&mut self, sender: u8, point: u8, nominator: u8) -> Result<(), Fault>
         ensures { Stepped self.old self.new (appoint sender point nominator) (told result) }

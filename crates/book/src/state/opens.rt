@@ -12,7 +12,7 @@ use crate::stage::Stage;
 use crate::state::Book;
 use allocations::Allocation;
 use faults::{BookCause, Fault};
-use std::alloc::{AllocError, AllocFailed, Global};
+use std::alloc::{AllocError, Global};
 
 /// Why no book was made.
 #[derive(Clone, Copy, PartialEq, Eq, Debug)]

@@ -9,9 +9,6 @@ use Rattle.book.proofs.Keeps.{passed}
 use Rattle.book.proofs.Onward.{kept, stepped}
 use Rattle.book.proofs.state.Book.allocate.Goals as goal
 
-pub index_mut-requires : goal.index_mut-requires
-index_mut-requires c = let b = c.args.self.now in omega (arith, b.sound.long.1, length-map (vec_items b.allocations) parts_of, b.allocations.ok.0, c.in_ok-place.ensures.inside)
-
 pub invariant_of-self : goal.invariant_of-self
 invariant_of-self c =
     let b = c.args.self.now in

@@ -9,19 +9,6 @@ use Rattle.book.proofs.Fits.{begun_well, begun_ill, begin_stopped, refusal}
 use Rattle.book.proofs.Onward.{kept_as, stepped_as}
 use Rattle.book.proofs.state.Book.begin.Goals as goal
 
-pub returns-in_err-expect_clear : goal.returns-in_err-expect_clear
-returns-in_err-expect_clear g c =
-    let b = c.args.self.now in
-    let rates = c.args.rates.now in
-    let t = g.M.Feed.table c.args.month.now in
-    let u = g.F.Feed.table c.args.reference.now in
-    let m = g.R.Rule.meaning c.args.rule.now in
-    let law : LawfulCall (begin c.args.rates.now (g.M.Feed.table c.args.month.now) (g.F.Feed.table c.args.reference.now) (g.R.Rule.meaning c.args.rule.now)) =
-    (g.met.M.Feed.sound c.args.month.now, (g.met.F.Feed.sound c.args.reference.now, (g.met.R.Rule.each c.args.rule.now, (g.met.R.Rule.all c.args.rule.now, g.met.R.Rule.none c.args.rule.now)))) in
-    let p = err_from_is_err_and c.from_residual.result c.from_residual.ensures.1 in
-    let stopped = begin_stopped (view b) rates t u m c.in_err-expect_clear.field-0.0 (sym c.expect_clear.ensures ∙ ap result_err c.in_err-expect_clear.was) in
-    rw (p.1, p.2) (refusal b (begin rates t u m) c.in_err-expect_clear.field-0.0 law stopped)
-
 pub returns-in_err-excess : goal.returns-in_err-excess
 returns-in_err-excess g c =
     let b = c.args.self.now in
