@@ -124,6 +124,37 @@ fn stacked_in_many_orders<F: Feed>(
     )
 }
 
+// The joins of `JOINS` whose bit is set, made over the feed in the order of the list.
+fn joined_by<F: Feed>(feed: F, chosen: u32) -> JoinFeed<F> {
+    let mut joined = JoinFeed::new(feed);
+    for (k, &(a, b)) in JOINS.iter().enumerate() {
+        if (chosen >> k) & 1 == 1 {
+            let _ = joined.join(a, b);
+        }
+    }
+    joined
+}
+
+// An order of all joins is a walk from none of them to all, a join at each step. How many readings differ, over every
+// set of joins and every join that is not in it, between the set with that join made last and the larger set. Where
+// none does, all orders there are show the same.
+fn steps_of_every_order<F: Feed>(feed: &F) -> Result<(u32, u32), Fault> {
+    let mut steps: u32 = 0;
+    let mut count: u32 = 0;
+    for chosen in 0..1u32 << JOINS.len() {
+        for (k, &(a, b)) in JOINS.iter().enumerate() {
+            if (chosen >> k) & 1 == 0 {
+                let mut last = joined_by(feed, chosen);
+                let _ = last.join(a, b);
+                let larger = joined_by(feed, chosen | 1 << k);
+                count = count.wrapping_add(differences(&last, &larger)?);
+                steps = steps.wrapping_add(1);
+            }
+        }
+    }
+    Ok((steps, count))
+}
+
 // Points 1 and 2 are joined below, 2 and 3 above.
 fn two_layers() -> Result<[(u64, u64); 3], Fault> {
     let readings = [(1, 10), (2, 20), (4, 40)];
@@ -162,7 +193,18 @@ fn largest_stack(readings: &[(u64, u64)]) -> Result<u64, Fault> {
     all_swings(&high)
 }
 
-fn small_counts(readings: &[(u64, u64)]) -> Result<(u32, u32, u32), Fault> {
+// How many readings differ: joined from not joined, in many orders, in many orders of a stack, and over the steps of
+// every order, of which it also has the number.
+#[derive(Clone, Copy)]
+struct Counts {
+    joined: u32,
+    orders: u32,
+    stacks: u32,
+    steps: u32,
+    on_the_way: u32,
+}
+
+fn small_counts(readings: &[(u64, u64)]) -> Result<Counts, Fault> {
     let feed = RecordFeed::new(CONNECTIONS, INTERVALS, readings)?;
     let joined = differences(&feed, &JoinFeed::over(&feed, &JOINS))?;
     let mut pairs = JOINS;
@@ -170,7 +212,14 @@ fn small_counts(readings: &[(u64, u64)]) -> Result<(u32, u32, u32), Fault> {
     let mut middle = [(2, 3), (5, 1), (4, 9), (3, 8)];
     let mut high = [(1, 2), (9, 8), (0, 1), (3, 7)];
     let stacks = stacked_in_many_orders(&feed, &mut pairs, &mut middle, &mut high)?;
-    Ok((joined, orders, stacks))
+    let (steps, on_the_way) = steps_of_every_order(&feed)?;
+    Ok(Counts {
+        joined,
+        orders,
+        stacks,
+        steps,
+        on_the_way,
+    })
 }
 
 fn main(rt: HostRuntime) -> io::Result<()> {
@@ -179,10 +228,20 @@ fn main(rt: HostRuntime) -> io::Result<()> {
         readings.push((k * k % 97, 7 * k % 31))?;
     }
     match small_counts(&readings) {
-        Ok((joined, orders, stacks)) => {
+        Ok(counts) => {
+            let Counts {
+                joined,
+                orders,
+                stacks,
+                steps,
+                on_the_way,
+            } = counts;
             println!(rt; "joined and not joined: {joined} readings differ")?;
             println!(rt; "{ORDERS} orders of a dozen joins: {orders} readings differ")?;
             println!(rt; "{ORDERS} orders in a stack of three: {stacks} readings differ")?;
+            println!(rt;
+                "{steps} steps of every order of a dozen joins: {on_the_way} readings differ"
+            )?;
         }
         Err(_) => println!(rt; "refused")?,
     }
