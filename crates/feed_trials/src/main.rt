@@ -1,6 +1,6 @@
 //! Tries what the proofs say: nine connections across three facilities joined in many orders, alone
 //! and in a stack of three join feeds; groups below that joins above know nothing of; lists that are
-//! refused; and the swings over the largest table there is.
+//! refused; how often each layer of a stack is read; and the swings over the largest table there is.
 
 #![tactic(auto)]
 
@@ -9,6 +9,7 @@ ghost use Rattle.std.specs.Prelude.{◌≡◌};
 use faults::Fault;
 use feeds::{Feed, JoinFeed, RecordFeed, swing};
 use std::alloc::{AllocError, Global};
+use std::cell::Cell;
 use std::io;
 use tables::{MOST_INTERVALS, MOST_POINTS};
 
@@ -164,6 +165,59 @@ fn two_layers() -> Result<[(u64, u64); 3], Fault> {
     Ok([high.read(1, 1)?, high.read(2, 1)?, high.read(3, 1)?])
 }
 
+// A feed that counts how often it is read.
+#[derive(Drop)]
+struct Counted<F> {
+    below: F,
+    reads: Cell<u64>,
+}
+
+impl<F: Feed> Counted<F> {
+    fn over(below: F) -> Counted<F> {
+        Counted {
+            below,
+            reads: Cell::new(0),
+        }
+    }
+}
+
+impl<F: Feed> Feed for Counted<F> {
+    ghost table = { λ s. F.Feed.table s.below };
+
+    ghost sound = { λ s. F.Feed.sound s.below };
+
+    fn points(&self) -> u8 {
+        self.below.points()
+    }
+
+    fn intervals(&self) -> u32 {
+        self.below.intervals()
+    }
+
+    fn read(&self, point: u8, interval: u32) -> Result<(u64, u64), Fault> {
+        self.reads.set(self.reads.get().wrapping_add(1));
+        self.below.read(point, interval)
+    }
+}
+
+fn read_all<F: Feed>(feed: &F) -> Result<(), Fault> {
+    for interval in 1..=feed.intervals() {
+        for point in 1..=feed.points() {
+            feed.read(point, interval)?;
+        }
+    }
+    Ok(())
+}
+
+// How often each layer is read, the lowest first, where three join feeds are read once at each place.
+fn reads_in_a_stack(readings: &[(u64, u64)]) -> Result<(u64, u64, u64), Fault> {
+    let lowest = Counted::over(RecordFeed::new(CONNECTIONS, INTERVALS, readings)?);
+    let low = Counted::over(JoinFeed::over(&lowest, &JOINS));
+    let middle = Counted::over(JoinFeed::over(&low, &[(2, 3), (5, 1), (4, 9)]));
+    read_all(&JoinFeed::over(&middle, &[(1, 2), (9, 8), (3, 7)]))?;
+    Ok((lowest.reads.get(), low.reads.get(), middle.reads.get()))
+}
+
 // Why the list is refused, if it is.
 fn refusal(points: u8, intervals: u32, readings: &[(u64, u64)]) -> Option<Fault> {
     RecordFeed::new(points, intervals, readings).err()
@@ -242,6 +296,12 @@ fn main(rt: HostRuntime) -> io::Result<()> {
             println!(rt;
                 "{steps} steps of every order of a dozen joins: {on_the_way} readings differ"
             )?;
+        }
+        Err(_) => println!(rt; "refused")?,
+    }
+    match reads_in_a_stack(&readings) {
+        Ok((lowest, low, middle)) => {
+            println!(rt; "reads of the layers of a stack of three: {lowest} {low} {middle}")?;
         }
         Err(_) => println!(rt; "refused")?,
     }
