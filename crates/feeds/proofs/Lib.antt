@@ -2,4 +2,4 @@ pub mod Records
 pub mod Leads
 pub mod Afters
 pub mod Steps
-pub mod Mapped
+pub mod Made

@@ -11,12 +11,14 @@
 
 #![tactic(auto)]
 
+pub mod covered;
 pub mod feed;
 pub mod joined;
 pub mod laws;
 pub mod recorded;
 pub mod swings;
 
+pub use covered::Covered;
 pub use feed::Feed;
 pub use joined::JoinFeed;
 pub use recorded::RecordFeed;
