@@ -1,15 +1,16 @@
 -- A stretch of parts, part by part.
-use Rattle.std.proofs.Common.{◌≡◌, ℕ, zero, suc, ◌+◌, ◌*◌, ◌/◌, ◌%◌, ◌<◌, ltb, List, [], ◌∷◌, length, get_or, drop, Some, None, sym, refl, ap, ◌∙◌, inl, inr, add-zero, add_assoc, arith}
+use Rattle.std.proofs.Common.{◌≡◌, ℕ, zero, suc, ◌+◌, ◌*◌, ◌/◌, ◌%◌, ◌<◌, ltb, List, [], ◌∷◌, length, get_or, ◌++◌, take, drop, Some, None, sym, refl, ap, ◌∙◌, inl, inr, add-zero, add_assoc, arith, rules}
 use Rattle.std.specs.List.{flat_map, AllByRecursion, slice_get}
 use Rattle.std.specs.Simd.{first_chunks}
-use Rattle.std.proofs.lemmas.List.{get_or-drop, get_or-take}
+use Rattle.std.proofs.lemmas.List.{get_or-drop, get_or-take, get_or-map, length-map, take_all}
+use Rattle.std.proofs.Math.Seq.{take-suc}
 use Rattle.std.proofs.lemmas.Option.{slice_get_past}
 use Rattle.std.proofs.lemmas.Bool.{cases_lt, cond-false, cond-true, le-ltb, lt-ltb}
 use Rattle.files.specs.Numbers.{two_at}
 use Rattle.files.proofs.Bytes.{two_value}
-use Rattle.files.proofs.Pieces.{piece_at}
+use Rattle.files.proofs.Pieces.{piece_at, length-first_chunks}
 use Rattle.notices.specs.declared.part.Part.{Part}
-use Rattle.notices.specs.Parts.{part_bytes, count_of, part_from, part_of, Stretch}
+use Rattle.notices.specs.Parts.{part_bytes, count_of, part_from, parts_of, part_of, Stretch}
 
 -- Three bytes for each part.
 length-parts : (ps : List Part) → length (flat_map part_bytes ps) ≡ 3 * length ps
@@ -68,3 +69,24 @@ part_in_chunk stretch i chunk l e =
     ap (λ xs. get_or xs j 0) (e ∙ piece_at 3 (count_of stretch) stretch i chunk l)
     ∙ get_or-take 3 (drop (i * 3) stretch) j 0 h ∙ get_or-drop (i * 3) stretch j 0 ∙ ap (λ n. get_or stretch n 0) at in
     simp (byte 0 (omega arith), byte 1 (omega arith), byte 2 (omega arith), lt-ltb _ _ l, add-zero, add_assoc) refl
+
+-- The parts up to a place, and the part at that place.
+pub parts_next : (stretch : List ℕ) (i : ℕ) (p : Part) → i < count_of stretch → Some p ≡ part_of stretch i
+    → take (i + 1) (parts_of stretch) ≡ take i (parts_of stretch) ++ (p ∷ [])
+parts_next stretch i p l e =
+    let n = count_of stretch in
+    let chunks = first_chunks 3 n stretch in
+    let chunk = take 3 (drop (i * 3) stretch) in
+    let many = length-first_chunks 3 n stretch in
+    let size = length-map chunks part_from in
+    let here : Some (part_from chunk) ≡ Some p = part_in_chunk stretch i chunk l (sym (piece_at 3 n stretch i chunk l)) ∙ sym e in
+    let is : get_or (parts_of stretch) i p ≡ p =
+    get_or-map part_from chunks i chunk p (omega arith) ∙ ap part_from (piece_at 3 n stretch i chunk l) ∙ search (rules, here) in
+    let more : i + 1 ≡ suc i = omega arith in
+    ap (λ j. take j (parts_of stretch)) more ∙ take-suc (parts_of stretch) i p (omega arith) ∙ ap (λ (x : Part). take i (parts_of stretch) ++ (x ∷ [])) is
+
+pub all_parts : (stretch : List ℕ) → take (count_of stretch) (parts_of stretch) ≡ parts_of stretch
+all_parts stretch =
+    let many = length-first_chunks 3 (count_of stretch) stretch in
+    let size = length-map (first_chunks 3 (count_of stretch) stretch) part_from in
+    take_all (count_of stretch) (parts_of stretch) (omega arith)

@@ -1,7 +1,7 @@
 //! What a party can tell the book before a run begins.
 ghost use Rattle.std.specs.Prelude.{Some};
 
-use crate::part::Part;
+use crate::part::{part_at, part_count};
 use std::fmt;
 
 /// A notice, with its fields as the file holds them: reading and writing check no field.
@@ -53,9 +53,8 @@ impl fmt::Display for Notice<'_> {
             } => write!(f, "nominate {sender} {point} {nominee}"),
             Notice::Allocate { party, parts } => {
                 write!(f, "allocate {party}")?;
-                let (parts, _) = parts.as_chunks();
-                for part in parts {
-                    write!(f, " {}", Part::from(*part))?;
+                for i in 0..part_count(parts) {
+                    write!(f, " {}", part_at(parts, i).unwrap())?;
                 }
                 Ok(())
             }
