@@ -98,7 +98,9 @@ fn bytes_of(heap: Global, text: &str) -> anyhow::Result<Vec<u8>> {
         return Err(anyhow!("not hexadecimal"));
     }
     let pairs = digits.len() / 2;
-    Ok(hex::decode(heap, &digits[..2 * pairs])?)
+    let mut bytes = vec![in heap; 0u8; pairs]?;
+    hex::decode_to_slice(&digits[..2 * pairs], bytes.as_mut_slice())?;
+    Ok(bytes)
 }
 
 fn case(rt: &HostRuntime, line: &str) -> anyhow::Result<()> {
