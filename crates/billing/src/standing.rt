@@ -29,6 +29,7 @@ pub struct Standing<'a> {
 
 impl Standing<'_> {
     // Refuses what is no standing of a grid with so many parties. Its allocations are whole, as all are.
+    #[tactic(auto, using(crate::proofs::Payers::wholes))]
     pub(crate) fn check(&self, parties: usize) -> Result<(), Fault>
         ensures { result ≡ checked parties self.now.nominees.now self.now.nominators.now (map parts_of self.now.allocations.now) self.now.cost (provider_of self.now.provider) }
     {
